@@ -1,0 +1,66 @@
+//! What a book keeps beside its slots.
+ghost use mathlib.Core.Path.{_≡_};
+ghost use Rattle.book.specs.Rules.{changes, toldOf};
+use ledger::Ledger;
+use refusal::Refusal;
+use refusal::Refused;
+
+#[derive(Clone, Copy)]
+pub enum BookState {
+    Open,
+    Closed,
+}
+
+#[derive(Clone, Copy)]
+pub struct Register {
+    pub number: u32,
+    pub edition: u16,
+    pub state: BookState,
+    /// How many slots are booked, withdrawn ones counted.
+    pub used: usize,
+    pub ledger: Ledger,
+}
+
+/// Why a call is refused, from the book's state.
+#[derive(Clone, Copy)]
+pub enum BookFault {
+    Blank,
+    State,
+    Full,
+    Stands(u16),
+}
+
+pub impl Refused for BookFault as BookFaultRefused {
+    ghost told = { toldOf };
+
+    fn refusal(&self) -> Refusal {
+        match self {
+            BookFault::Blank => Refusal {
+                number: 11,
+                detail: None,
+            },
+            BookFault::State => Refusal {
+                number: 21,
+                detail: None,
+            },
+            BookFault::Full => Refusal {
+                number: 22,
+                detail: None,
+            },
+            BookFault::Stands(n) => Refusal {
+                number: 23,
+                detail: Some(*n as usize),
+            },
+        }
+    }
+}
+
+/// Whether records may change.
+pub fn may_change(state: BookState) -> bool
+    ensures { λ r. ⌜ r ≡ changes state ⌝ }
+{
+    match state {
+        BookState::Open => true,
+        BookState::Closed => false,
+    }
+}

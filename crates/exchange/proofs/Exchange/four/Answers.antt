@@ -1,0 +1,30 @@
+use borrow.Author.Needs.{needs}
+use mathlib.Core.Path.{_≡_, refl, sym, ap, _∙_}
+use lib.IntN.{pos, _-ℤ_}
+use mir.Syntax.{w32, w64}
+use mir.Val.{SFits}
+use Rattle.std.proofs.shelf.Signed.{toZ-ofZ}
+use Rattle.exchange.specs.Meaning.{shareOf}
+use Rattle.exchange.proofs.Passing.{own-when}
+use native.Mathlib.Omega.{arith}
+use borrow.Author.Differences.{ints}
+use Rattle.exchange.proofs.Exchange.four.Needs as need
+
+pub share-of-share-requires : need.share-of-share-requires
+share-of-share-requires c κs = record { small = omega (arith, ints); part = c .pre .percentage-high }
+
+pub returns : need.returns
+returns c =
+    let fi : SFits w32 (c .args .self .now .importing) = search needs in
+    let fe : SFits w32 (c .args .self .now .exporting) = search needs in
+    let fa : SFits w64 (c .worth-of-a .result) = search needs in
+    let fb : SFits w64 (c .worth-of-b .result) = search needs in
+    let fs : SFits w64 (c .share-of-share .result) = search needs in
+    let fd : SFits w64 (c .worth-of-a .result -ℤ c .worth-of-b .result) = omega (arith, ints) in
+    let ea = simp toZ-ofZ at (c .worth-of-a .ensures .value) in
+    let eb = simp toZ-ofZ at (c .worth-of-b .ensures .value) in
+    let es = simp toZ-ofZ at (c .share-of-share .ensures .value) in
+    let ta = toZ-ofZ w64 (c .worth-of-a .result) fa in
+    let tb = toZ-ofZ w64 (c .worth-of-b .result) fb in
+    let ts = toZ-ofZ w64 (c .share-of-share .result) fs in
+    c .four-postings .ensures ∙ own-when (c .args .self .now) _ _ _ (ta ∙ ea) (tb ∙ eb) (ts ∙ es ∙ ap (λ z. shareOf z (c .args .self .now .percentage)) (omega (arith, ints)))

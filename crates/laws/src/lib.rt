@@ -1,0 +1,9 @@
+//! Statements over several crates at once.
+ghost use Rattle.laws.specs.Examples.{Reckoned};
+
+/// The reckoned examples follow from the definitions.
+pub fn examples_stand() -> u8
+    ensures { λ _. ⌜ Reckoned ⌝ }
+{
+    0
+}
