@@ -6,7 +6,7 @@ use lib.Dec.{eqb, ltb}
 use Rattle.std.specs.declared.option.Option.{Option}
 use Rattle.std.specs.declared.option.Option.the-variants.{Some, None}
 use Rattle.refusal.specs.declared.Refusal.{Refusal}
-use Rattle.refusal.specs.Told.{refusal, plain}
+use Rattle.refusal.specs.Told.{detailed, plain}
 use Rattle.book.specs.declared.slots.Slot.{Slot}
 use Rattle.book.specs.declared.register.BookState.{BookState}
 use Rattle.book.specs.declared.register.BookState.the-variants.{Open, Closed}
@@ -19,7 +19,7 @@ abbrev pub toldOf : BookFault → Refusal
 toldOf Blank = plain 11
 toldOf State = plain 21
 toldOf Full = plain 22
-toldOf (Stands n) = refusal 23 (Some n)
+toldOf (Stands n) = detailed 23 n
 
 -- records change in an open book
 abbrev pub changes : BookState → Bool

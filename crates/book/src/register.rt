@@ -35,22 +35,10 @@ pub impl Refused for BookFault as BookFaultRefused {
 
     fn refusal(&self) -> Refusal {
         match self {
-            BookFault::Blank => Refusal {
-                number: 11,
-                detail: None,
-            },
-            BookFault::State => Refusal {
-                number: 21,
-                detail: None,
-            },
-            BookFault::Full => Refusal {
-                number: 22,
-                detail: None,
-            },
-            BookFault::Stands(n) => Refusal {
-                number: 23,
-                detail: Some(*n as usize),
-            },
+            BookFault::Blank => Refusal::plain(11),
+            BookFault::State => Refusal::plain(21),
+            BookFault::Full => Refusal::plain(22),
+            BookFault::Stands(n) => Refusal::with(23, *n as usize),
         }
     }
 }

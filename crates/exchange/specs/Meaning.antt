@@ -10,7 +10,7 @@ use Rattle.std.specs.declared.option.Option.{Option}
 use Rattle.std.specs.declared.option.Option.the-variants.{Some}
 use Rattle.amounts.specs.Floor.{floorDiv, nearest}
 use Rattle.refusal.specs.declared.Refusal.{Refusal}
-use Rattle.refusal.specs.Told.{refusal, plain}
+use Rattle.refusal.specs.Told.{detailed, plain}
 use Rattle.record.specs.declared.Posting.{Posting}
 use Rattle.record.specs.Meaning.{post}
 use Rattle.record.specs.Reading.{Check, check, firstOf, inRange, within}
@@ -58,7 +58,7 @@ placeOf Reserved = 19
 -- what each fault is told as
 abbrev pub toldOf : ExchangeFault → Refusal
 toldOf CutOff = plain 4
-toldOf (OutOfRange f) = refusal 5 (Some (placeOf f))
+toldOf (OutOfRange f) = detailed 5 (placeOf f)
 toldOf SameMember = plain 6
 toldOf PriceOrder = plain 7
 

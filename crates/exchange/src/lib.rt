@@ -9,6 +9,8 @@ ghost use Rattle.exchange.specs.Sound.{Sound};
 ghost use Rattle.exchange.specs.Bytes.{bytesOf, fieldsOf, readOf};
 use amounts::nearest_cent;
 use amounts::round_down;
+use record::MEMBERS;
+use record::PERIODS;
 use record::Posting;
 use record::Record;
 use record::WriteFault;
@@ -21,16 +23,29 @@ use wire::I32Field;
 use wire::U16Field;
 use wire::U32Field;
 
+/// The most kWh of one exchange.
+const MOST_VOLUME: u32 = 1_000_000;
+
+/// The highest price on either side of zero, in cents per MWh.
+const MOST_PRICE: u32 = 9_999_999;
+
+/// Energy that one member exports and another imports over a border in one quarter hour.
 #[derive(Clone, Copy)]
 pub struct Exchange {
+    /// 1 for replacement reserves, 2 for manual and 3 for automatic frequency restoration reserves.
     product: u8,
+    /// The quarter hour of the month.
     period: u16,
     border: u8,
     importer: u8,
     exporter: u8,
+    /// In kWh.
     volume: u32,
+    /// The price of the importing side, in cents per MWh.
     importing: i32,
+    /// The price of the exporting side, in cents per MWh.
     exporting: i32,
+    /// The importer's part of the income, in percent.
     percentage: u8,
     reserved: u8,
 }
@@ -49,11 +64,15 @@ pub enum ExchangeField {
     Reserved,
 }
 
+/// Why bytes are not read as an exchange, in the order of the checks.
 #[derive(Clone, Copy)]
 pub enum ExchangeFault {
+    /// There are fewer bytes than an exchange has.
     CutOff,
     OutOfRange(ExchangeField),
+    /// The importer is the exporter.
     SameMember,
+    /// The importing price is below the exporting price.
     PriceOrder,
 }
 
@@ -81,26 +100,15 @@ pub impl Refused for ExchangeFault as ExchangeFaultRefused {
 
     fn refusal(&self) -> Refusal {
         match self {
-            ExchangeFault::CutOff => Refusal {
-                number: 4,
-                detail: None,
-            },
-            ExchangeFault::OutOfRange(field) => Refusal {
-                number: 5,
-                detail: Some(field.place()),
-            },
-            ExchangeFault::SameMember => Refusal {
-                number: 6,
-                detail: None,
-            },
-            ExchangeFault::PriceOrder => Refusal {
-                number: 7,
-                detail: None,
-            },
+            ExchangeFault::CutOff => Refusal::plain(4),
+            ExchangeFault::OutOfRange(field) => Refusal::with(5, field.place()),
+            ExchangeFault::SameMember => Refusal::plain(6),
+            ExchangeFault::PriceOrder => Refusal::plain(7),
         }
     }
 }
 
+/// The nearest cents of a volume at a price.
 fn worth_of(volume: u32, price: i32) -> i64
     requires volumes { ⌜ volume ≤ 1000000 ⌝ }
     requires prices { ⌜ Under 9999999 price ⌝ }
@@ -110,6 +118,7 @@ fn worth_of(volume: u32, price: i32) -> i64
     nearest_cent(volume as i64 * price as i64)
 }
 
+/// The importer's share of the income, rounded down.
 fn share_of(income: i64, percentage: u8) -> i64
     requires small { ⌜ Under 19999998000 income ⌝ }
     requires part { ⌜ percentage ≤ 100 ⌝ }
@@ -119,6 +128,8 @@ fn share_of(income: i64, percentage: u8) -> i64
     round_down(income * percentage as i64, 100)
 }
 
+/// The importer pays `a` and the exporter is paid `b`; of the income `a - b` the importer gets its
+/// share and the exporter the rest.
 fn four_postings(importer: u8, exporter: u8, a: i64, b: i64, share: i64) -> [Posting; 4]
     requires a { ⌜ Under 9999999000 a ⌝ }
     requires b { ⌜ Under 9999999000 b ⌝ }
@@ -153,22 +164,22 @@ impl Exchange {
         if !in_range(1, 3, self.product as u32) {
             return Some(ExchangeFault::OutOfRange(ExchangeField::Product));
         }
-        if !in_range(1, 2980, self.period as u32) {
+        if !in_range(1, PERIODS, self.period as u32) {
             return Some(ExchangeFault::OutOfRange(ExchangeField::Period));
         }
-        if !in_range(1, 32, self.importer as u32) {
+        if !in_range(1, MEMBERS, self.importer as u32) {
             return Some(ExchangeFault::OutOfRange(ExchangeField::Importer));
         }
-        if !in_range(1, 32, self.exporter as u32) {
+        if !in_range(1, MEMBERS, self.exporter as u32) {
             return Some(ExchangeFault::OutOfRange(ExchangeField::Exporter));
         }
-        if !in_range(1, 1_000_000, self.volume) {
+        if !in_range(1, MOST_VOLUME, self.volume) {
             return Some(ExchangeFault::OutOfRange(ExchangeField::Volume));
         }
-        if !is_within(9_999_999, self.importing) {
+        if !is_within(MOST_PRICE, self.importing) {
             return Some(ExchangeFault::OutOfRange(ExchangeField::ImportingPrice));
         }
-        if !is_within(9_999_999, self.exporting) {
+        if !is_within(MOST_PRICE, self.exporting) {
             return Some(ExchangeFault::OutOfRange(ExchangeField::ExportingPrice));
         }
         if self.percentage > 100 {
@@ -186,6 +197,7 @@ impl Exchange {
         None
     }
 
+    /// Whether the fields pass every check of reading.
     fn passes(&self) -> bool
         ensures value { λ r. ⌜ r ≡ passing (now (self .entry)) ⌝ }
         ensures sound { λ r. ⌜ (r ≡ true → Sound (now (self .entry))) ⌝ }
@@ -238,7 +250,8 @@ impl Exchange {
             + self.importer as u64
     }
 
-    fn four(&self) -> [Posting; 4]
+    /// The postings of the fields.
+    fn own_postings(&self) -> [Posting; 4]
         requires { ⌜ Sound (now self) ⌝ }
         ensures { λ r. ⌜ r ≡ ownPostings (now (self .entry)) ⌝ }
     {
@@ -323,7 +336,7 @@ pub impl Record for Exchange as ExchangeRecord {
         if !self.passes() {
             return Posting::NONE;
         }
-        self.four()[at]
+        self.own_postings()[at]
     }
 
     fn write(&self, page: &mut [u8], at: usize) -> Result<(), WriteFault> {
@@ -351,7 +364,7 @@ pub impl Record for Exchange as ExchangeRecord {
         if !self.passes() {
             return 0;
         }
-        list[0..4].copy_from_slice(&self.four());
+        list[0..4].copy_from_slice(&self.own_postings());
         4
     }
 }

@@ -26,14 +26,8 @@ pub impl Refused for FileFault as FileFaultRefused {
 
     fn refusal(&self) -> Refusal {
         match self {
-            FileFault::Length => Refusal {
-                number: 1,
-                detail: None,
-            },
-            FileFault::UnknownKind => Refusal {
-                number: 2,
-                detail: None,
-            },
+            FileFault::Length => Refusal::plain(1),
+            FileFault::UnknownKind => Refusal::plain(2),
         }
     }
 }
@@ -106,14 +100,8 @@ pub impl Refused for CommandFault as CommandFaultRefused {
 
     fn refusal(&self) -> Refusal {
         match self {
-            CommandFault::Unknown(_) => Refusal {
-                number: 3,
-                detail: None,
-            },
-            CommandFault::CutOff(_) => Refusal {
-                number: 4,
-                detail: None,
-            },
+            CommandFault::Unknown(_) => Refusal::plain(3),
+            CommandFault::CutOff(_) => Refusal::plain(4),
         }
     }
 }

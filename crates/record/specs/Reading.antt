@@ -11,7 +11,7 @@ use Rattle.std.specs.declared.result.Result.{Result}
 use Rattle.std.specs.declared.result.Result.the-variants.{Ok, Err}
 use Rattle.refusal.specs.declared.Refusal.{Refusal}
 use Rattle.refusal.specs.declared.Layer.{Layer}
-use Rattle.refusal.specs.Told.{refusal, plain, layerOf}
+use Rattle.refusal.specs.Told.{detailed, plain, layerOf}
 
 -- low ≤ n ≤ high
 abbrev pub inRange : ℕ → ℕ → ℕ → Bool
@@ -46,5 +46,5 @@ refusalOf told (Err f) = Some (told f)
 
 -- A refusal of a record of this width: 5 comes with the place of a field inside the record, the others of the layer come alone.
 pub data OfRecord (wide : ℕ) : Refusal → Type 0 where
-  field : (place : ℕ) → place < wide → OfRecord wide (refusal 5 (Some place))
+  field : (place : ℕ) → place < wide → OfRecord wide (detailed 5 place)
   whole : (n : ℕ) → layerOf n ≡ Layer.Record → (n ≡ 5 → ⊥) → OfRecord wide (plain n)

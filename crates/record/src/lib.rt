@@ -18,6 +18,12 @@ ghost use Rattle.record.specs.Writing.{pageAfter, toldOf, writes};
 use refusal::Refusal;
 use refusal::Refused;
 
+/// Members are numbered from 1 to this.
+pub const MEMBERS: u32 = 32;
+
+/// The quarter hours of a month are numbered from 1 to this.
+pub const PERIODS: u32 = 2_980;
+
 /// An amount in cents for one member: above zero it is paid to the member, below zero by it.
 #[derive(Clone, Copy)]
 pub struct Posting {
@@ -45,14 +51,8 @@ pub impl Refused for WriteFault as WriteFaultRefused {
 
     fn refusal(&self) -> Refusal {
         match self {
-            WriteFault::Blank => Refusal {
-                number: 11,
-                detail: None,
-            },
-            WriteFault::PageTooShort => Refusal {
-                number: 13,
-                detail: None,
-            },
+            WriteFault::Blank => Refusal::plain(11),
+            WriteFault::PageTooShort => Refusal::plain(13),
         }
     }
 }

@@ -4,8 +4,7 @@ use mathlib.Core.Bool.{cond}
 use mathlib.Core.List.{List}
 use lib.Chars.{codes}
 use lib.Dec.{leb}
-use Rattle.std.specs.declared.option.Option.{Option}
-use Rattle.std.specs.declared.option.Option.the-variants.{None}
+use Rattle.std.specs.declared.option.Option.the-variants.{Some, None}
 use Rattle.refusal.specs.declared.Refusal.{Refusal}
 use Rattle.refusal.specs.declared.Layer.{Layer}
 use Rattle.refusal.specs.declared.Layer.the-variants.{File, Record, Book}
@@ -14,12 +13,12 @@ use Rattle.refusal.specs.declared.MemberFault.the-variants.{Unknown}
 use Rattle.refusal.specs.declared.PageFault.{PageFault}
 use Rattle.refusal.specs.declared.PageFault.the-variants.{TooShort}
 
-abbrev pub refusal : ℕ → Option ℕ → Refusal
-refusal n d = record { number = n; detail = d }
-
--- a refusal that is its number alone
+-- a refusal that is its number alone, and one with the value that goes with it
 abbrev pub plain : ℕ → Refusal
-plain n = refusal n None
+plain n = record { number = n; detail = None }
+
+abbrev pub detailed : ℕ → ℕ → Refusal
+detailed n v = record { number = n; detail = Some v }
 
 -- file for 1 to 4, record for 5 to 10, book for the rest
 abbrev pub layerOf : ℕ → Layer

@@ -1,7 +1,7 @@
 //! Refusals as they are told: a number, the value that goes with it, and the layer that refuses.
 ghost use mathlib.Core.Path.{_≡_};
 ghost use Rattle.refusal.specs.declared.Refusal.{Refusal};
-ghost use Rattle.refusal.specs.Told.{layerOf, nameOf, toldOfMember, toldOfPage};
+ghost use Rattle.refusal.specs.Told.{detailed, layerOf, nameOf, plain, toldOfMember, toldOfPage};
 
 /// A refusal as it is told. The detail of a field out of range (5) is the field's place, that of a
 /// key that stands already (23) the number of the record that stands.
@@ -9,6 +9,28 @@ ghost use Rattle.refusal.specs.Told.{layerOf, nameOf, toldOfMember, toldOfPage
 pub struct Refusal {
     pub number: u8,
     pub detail: Option<usize>,
+}
+
+impl Refusal {
+    /// A refusal that is its number alone.
+    pub fn plain(number: u8) -> Refusal
+        ensures { λ r. ⌜ r ≡ plain number ⌝ }
+    {
+        Refusal {
+            number,
+            detail: None,
+        }
+    }
+
+    /// A refusal with the value that goes with it.
+    pub fn with(number: u8, detail: usize) -> Refusal
+        ensures { λ r. ⌜ r ≡ detailed number detail ⌝ }
+    {
+        Refusal {
+            number,
+            detail: Some(detail),
+        }
+    }
 }
 
 /// A layer's own fault, with the refusal that it is told as.
@@ -64,10 +86,7 @@ pub impl Refused for MemberFault as MemberFaultRefused {
 
     fn refusal(&self) -> Refusal {
         match self {
-            MemberFault::Unknown => Refusal {
-                number: 12,
-                detail: None,
-            },
+            MemberFault::Unknown => Refusal::plain(12),
         }
     }
 }
@@ -83,10 +102,7 @@ pub impl Refused for PageFault as PageFaultRefused {
 
     fn refusal(&self) -> Refusal {
         match self {
-            PageFault::TooShort => Refusal {
-                number: 13,
-                detail: None,
-            },
+            PageFault::TooShort => Refusal::plain(13),
         }
     }
 }

@@ -8,7 +8,7 @@ use Rattle.exchange.specs.Meaning.{shareOf}
 use Rattle.exchange.proofs.Passing.{own-when}
 use native.Mathlib.Omega.{arith}
 use borrow.Author.Differences.{ints}
-use Rattle.exchange.proofs.Exchange.four.Needs as need
+use Rattle.exchange.proofs.Exchange.own_postings.Needs as need
 
 pub share-of-share-requires : need.share-of-share-requires
 share-of-share-requires c κs = record { small = omega (arith, ints); part = c .pre .percentage-high }

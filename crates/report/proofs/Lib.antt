@@ -1,0 +1,2 @@
+pub mod Long
+mod Writing
