@@ -26,6 +26,8 @@ pub use crate::slots::SlotState;
 /// How many slots are used at most.
 const MOST_SLOTS: usize = 4096;
 
+/// A book over slots that its opener lends. An open book has issued no statement, and no more slots
+/// are booked than may be used.
 #[derive(Drop)]
 pub struct Book<'a, R: Record> {
     shelf: Shelf<'a, R>,
@@ -97,6 +99,7 @@ impl<'a, R: Record> Book<'a, R> {
         self.register.ledger.account(member)
     }
 
+    /// Why a booking of this record is refused, in the order of the checks.
     fn booking_fault(&self, item: &R) -> Option<BookFault>
         ensures { λ r. ⌜ r ≡ bookRefusal keyed (capacity (now (now (self .entry) .shelf .slots))) (now (self .entry) .register .used) (entries (now (now (self .entry) .shelf .slots)) (now (self .entry) .register)) (now (self .entry) .register .state) (now (item .entry)) ⌝ }
     {

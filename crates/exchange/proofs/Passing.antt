@@ -54,6 +54,10 @@ share-under (negsuc n) p b h u =
     let f = floor-is (negsuc n *ℤ pos p) 100 (omega arith) in
     (omega (arith, ints), omega (arith, ints))
 
+-- the same, of a share that was reckoned: z and s are found from the equation
+pub shared-under : (z s : ℤ) (p : ℕ) → s ≡ shareOf z p → p ≤ 100 → Under 19999998000 z → Under 19999998000 s
+shared-under z s p e h u = subst (Under 19999998000) (sym e) (share-under z p 19999998000 h u .0)
+
 pub own-when : (e : Exchange) (a b s : ℤ) → a ≡ worth (e .volume) (e .importing) → b ≡ worth (e .volume) (e .exporting) → s ≡ shareOf (a -ℤ b) (e .percentage) → fourPostings (e .importer) (e .exporter) a b s ≡ ownPostings e
 own-when e a b s ea eb es = ap (fourPostings (e .importer) (e .exporter) a b) es ∙ ap (λ x. fourPostings (e .importer) (e .exporter) x b (shareOf (x -ℤ b) (e .percentage))) ea ∙ ap (λ y. fourPostings (e .importer) (e .exporter) (worth (e .volume) (e .importing)) y (shareOf (worth (e .volume) (e .importing) -ℤ y) (e .percentage))) eb
 

@@ -2,6 +2,7 @@
 ghost use mathlib.Core.Path.{_≡_};
 ghost use mathlib.Core.Bool.{true};
 ghost use Prim.Native.Nat.{_<_, _≤_};
+ghost use lib.IntN.{pos, _*ℤ_};
 ghost use lib.ListN.{length};
 ghost use Rattle.amounts.specs.Floor.{Under};
 ghost use Rattle.exchange.specs.Meaning.{faultOf, fourPostings, keyOf, noExchange, ownKey, ownPostings, passing, placeOf, postings, shareOf, toldOf, worth};
@@ -118,14 +119,22 @@ fn worth_of(volume: u32, price: i32) -> i64
     nearest_cent(volume as i64 * price as i64)
 }
 
+/// The importer's part of the income, in hundredths of a cent.
+fn hundredths_of(income: i64, percentage: u8) -> i64
+    requires small { ⌜ Under 19999998000 income ⌝ }
+    requires part { ⌜ percentage ≤ 100 ⌝ }
+    ensures { λ r. ⌜ r ≡ income *ℤ pos percentage ⌝ }
+{
+    income * percentage as i64
+}
+
 /// The importer's share of the income, rounded down.
 fn share_of(income: i64, percentage: u8) -> i64
     requires small { ⌜ Under 19999998000 income ⌝ }
     requires part { ⌜ percentage ≤ 100 ⌝ }
-    ensures value { λ r. ⌜ r ≡ shareOf income percentage ⌝ }
-    ensures within { λ r. ⌜ Under 19999998000 r ⌝ }
+    ensures { λ r. ⌜ r ≡ shareOf income percentage ⌝ }
 {
-    round_down(income * percentage as i64, 100)
+    round_down(hundredths_of(income, percentage), 100)
 }
 
 /// The importer pays `a` and the exporter is paid `b`; of the income `a - b` the importer gets its
@@ -137,22 +146,10 @@ fn four_postings(importer: u8, exporter: u8, a: i64, b: i64, share: i64) -> [Pos
     ensures { λ r. ⌜ r ≡ fourPostings importer exporter a b share ⌝ }
 {
     [
-        Posting {
-            member: importer,
-            cents: -a,
-        },
-        Posting {
-            member: exporter,
-            cents: b,
-        },
-        Posting {
-            member: importer,
-            cents: share,
-        },
-        Posting {
-            member: exporter,
-            cents: a - b - share,
-        },
+        Posting::to(importer, -a),
+        Posting::to(exporter, b),
+        Posting::to(importer, share),
+        Posting::to(exporter, a - b - share),
     ]
 }
 

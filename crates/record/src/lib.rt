@@ -12,7 +12,7 @@ ghost use Rattle.std.specs.declared.result.Result.the-variants.{Ok, Err};
 ghost use Rattle.refusal.specs.Told.{plain};
 ghost use Rattle.wire.specs.Bytes.{Byte};
 ghost use Rattle.record.specs.declared.Posting.{Posting};
-ghost use Rattle.record.specs.Meaning.{Fair, total, no-posting};
+ghost use Rattle.record.specs.Meaning.{Fair, no-posting, post, total};
 ghost use Rattle.record.specs.Reading.{OfRecord, inRange, refusalOf, within};
 ghost use Rattle.record.specs.Writing.{pageAfter, toldOf, writes};
 use refusal::Refusal;
@@ -37,6 +37,13 @@ impl Posting {
         member: 0,
         cents: 0,
     };
+
+    /// A posting of these cents to this member.
+    pub fn to(member: u8, cents: i64) -> Posting
+        ensures { λ r. ⌜ r ≡ post member cents ⌝ }
+    {
+        Posting { member, cents }
+    }
 }
 
 /// Why a record is not written into a page.

@@ -87,3 +87,7 @@ spread-is k (suc n) xs h =
 -- a list of n elements
 pub spread-all : (n : ℕ) (xs : List ℕ) → length xs ≡ n → xs ≡ spread 0 n xs
 spread-all n xs e = sym (take-all n xs (omega arith)) ∙ spread-is 0 n xs (omega arith)
+
+-- the number in the n bytes ys, of which xs is a copy
+pub number-copied : (n : ℕ) (xs ys : List ℕ) → length ys ≡ n → xs ≡ ys → number ys ≡ number (spread 0 n xs)
+number-copied n xs ys e f = ap number (spread-all n ys e ∙ ap (spread 0 n) (sym f))

@@ -51,7 +51,7 @@ pub impl Field for u8 as U8Field {
     }
 
     fn put(self, part: &mut [u8]) {
-        part[0] = self;
+        part.copy_from_slice(&u8::to_be_bytes(self));
     }
 }
 
@@ -65,11 +65,13 @@ pub impl Field for u16 as U16Field {
     ghost decoded = { number };
 
     fn get(part: &[u8]) -> u16 {
-        u16::from_be_bytes([part[0], part[1]])
+        let mut bytes = [0; 2];
+        bytes.copy_from_slice(part);
+        u16::from_be_bytes(bytes)
     }
 
     fn put(self, part: &mut [u8]) {
-        part.copy_from_slice(&self.to_be_bytes());
+        part.copy_from_slice(&u16::to_be_bytes(self));
     }
 }
 
@@ -83,11 +85,13 @@ pub impl Field for u32 as U32Field {
     ghost decoded = { number };
 
     fn get(part: &[u8]) -> u32 {
-        u32::from_be_bytes([part[0], part[1], part[2], part[3]])
+        let mut bytes = [0; 4];
+        bytes.copy_from_slice(part);
+        u32::from_be_bytes(bytes)
     }
 
     fn put(self, part: &mut [u8]) {
-        part.copy_from_slice(&self.to_be_bytes());
+        part.copy_from_slice(&u32::to_be_bytes(self));
     }
 }
 
@@ -101,20 +105,13 @@ pub impl Field for u64 as U64Field {
     ghost decoded = { number };
 
     fn get(part: &[u8]) -> u64 {
-        u64::from_be_bytes([
-            part[0],
-            part[1],
-            part[2],
-            part[3],
-            part[4],
-            part[5],
-            part[6],
-            part[7],
-        ])
+        let mut bytes = [0; 8];
+        bytes.copy_from_slice(part);
+        u64::from_be_bytes(bytes)
     }
 
     fn put(self, part: &mut [u8]) {
-        part.copy_from_slice(&self.to_be_bytes());
+        part.copy_from_slice(&u64::to_be_bytes(self));
     }
 }
 
@@ -128,11 +125,11 @@ pub impl Field for i8 as I8Field {
     ghost decoded = { signedNumber w8 };
 
     fn get(part: &[u8]) -> i8 {
-        i8::from_be_bytes([part[0]])
+        u8::get(part).cast_signed()
     }
 
     fn put(self, part: &mut [u8]) {
-        part.copy_from_slice(&self.to_be_bytes());
+        part.copy_from_slice(&i8::to_be_bytes(self));
     }
 }
 
@@ -146,11 +143,13 @@ pub impl Field for i16 as I16Field {
     ghost decoded = { signedNumber w16 };
 
     fn get(part: &[u8]) -> i16 {
-        i16::from_be_bytes([part[0], part[1]])
+        let mut bytes = [0; 2];
+        bytes.copy_from_slice(part);
+        i16::from_be_bytes(bytes)
     }
 
     fn put(self, part: &mut [u8]) {
-        part.copy_from_slice(&self.to_be_bytes());
+        part.copy_from_slice(&i16::to_be_bytes(self));
     }
 }
 
@@ -164,11 +163,13 @@ pub impl Field for i32 as I32Field {
     ghost decoded = { signedNumber w32 };
 
     fn get(part: &[u8]) -> i32 {
-        i32::from_be_bytes([part[0], part[1], part[2], part[3]])
+        let mut bytes = [0; 4];
+        bytes.copy_from_slice(part);
+        i32::from_be_bytes(bytes)
     }
 
     fn put(self, part: &mut [u8]) {
-        part.copy_from_slice(&self.to_be_bytes());
+        part.copy_from_slice(&i32::to_be_bytes(self));
     }
 }
 
@@ -182,19 +183,12 @@ pub impl Field for i64 as I64Field {
     ghost decoded = { signedNumber w64 };
 
     fn get(part: &[u8]) -> i64 {
-        i64::from_be_bytes([
-            part[0],
-            part[1],
-            part[2],
-            part[3],
-            part[4],
-            part[5],
-            part[6],
-            part[7],
-        ])
+        let mut bytes = [0; 8];
+        bytes.copy_from_slice(part);
+        i64::from_be_bytes(bytes)
     }
 
     fn put(self, part: &mut [u8]) {
-        part.copy_from_slice(&self.to_be_bytes());
+        part.copy_from_slice(&i64::to_be_bytes(self));
     }
 }

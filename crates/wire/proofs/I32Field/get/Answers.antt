@@ -4,12 +4,11 @@ use mir.Syntax.{w32}
 use mir.Val.{toZ, SFits}
 use borrow.Author.Needs.{needs}
 use Rattle.std.proofs.shelf.Signed.{toZ-ofZ}
-use Rattle.wire.specs.Bytes.{number}
-use Rattle.wire.proofs.Fields.{spread-all}
+use Rattle.wire.proofs.Fields.{number-copied}
 use Rattle.wire.proofs.I32Field.get.Needs as need
 
 pub returns : need.returns
 returns c =
-    let e = ap number (spread-all 4 (c .args .part .now) (c .pre)) in
+    let e = number-copied 4 _ (c .args .part .now) (c .pre) (c .copy-from-slice .ensures .after) in
     let fits : SFits w32 (c .from-be-bytes .result) = search needs in
     toZ-ofZ w32 (c .from-be-bytes .result) fits ∙ c .from-be-bytes .ensures ∙ ap (toZ w32) (omega arith)

@@ -1,15 +1,11 @@
 use mathlib.Core.Path.{ap, _∙_}
-use native.Mathlib.Omega.{arith}
 use mir.Syntax.{w8}
 use mir.Val.{toZ, SFits}
 use borrow.Author.Needs.{needs}
 use Rattle.std.proofs.shelf.Signed.{toZ-ofZ}
-use Rattle.wire.specs.Bytes.{number}
-use Rattle.wire.proofs.Fields.{spread-all}
 use Rattle.wire.proofs.I8Field.get.Needs as need
 
 pub returns : need.returns
 returns c =
-    let e = ap number (spread-all 1 (c .args .part .now) (c .pre)) in
-    let fits : SFits w8 (c .from-be-bytes .result) = search needs in
-    toZ-ofZ w8 (c .from-be-bytes .result) fits ∙ c .from-be-bytes .ensures ∙ ap (toZ w8) (omega arith)
+    let fits : SFits w8 (c .cast-signed .result) = search needs in
+    toZ-ofZ w8 (c .cast-signed .result) fits ∙ c .cast-signed .ensures ∙ ap (toZ w8) (c .get .ensures)

@@ -6,11 +6,10 @@ use mir.Val.{SFits}
 use borrow.Author.Differences.{ints}
 use Rattle.std.proofs.shelf.Signed.{toZ-ofZ, toZ-pos}
 use Rattle.amounts.proofs.Floors.{times-under}
-use Rattle.exchange.proofs.Passing.{share-under}
-use Rattle.exchange.proofs.share_of.Needs as need
+use Rattle.exchange.proofs.hundredths_of.Needs as need
 
-pub mul-income : need.mul-income
-mul-income c =
+pub mul-result : need.mul-result
+mul-result c =
     let u = times-under (c .args .income) (pos (c .args .percentage)) 19999998000 100 (omega (arith, ints)) (omega (arith, ints)) in
     let n : c .args .percentage < 2 ^ 63 = omega arith in
     let g : SFits w64 (c .args .income) = omega (arith, ints) in
@@ -22,6 +21,4 @@ returns c =
     let n : c .args .percentage < 2 ^ 63 = omega arith in
     let g : SFits w64 (c .args .income) = omega (arith, ints) in
     let k : SFits w64 (c .args .income *ℤ pos (c .args .percentage)) = omega (arith, ints) in
-    let e = simp (toZ-ofZ, toZ-pos) at (c .round-down .ensures) in
-    let s = share-under (c .args .income) (c .args .percentage) 19999998000 (c .pre .part) (c .pre .small) in
-    record { value = omega (arith, ints); within = omega (arith, ints) }
+    simp (toZ-ofZ, toZ-pos)
