@@ -1,8 +1,8 @@
 -- Division that rounds down.
-use mathlib.Core.Path.{_≡_, refl, ap}
+use mathlib.Core.Path.{_≡_, ap}
 use Prim.Native.Nat.{ℕ, suc, _+_, _-_, _*_, _^_, _≤_, _<_}
 use native.Mathlib.Omega.{arith}
-use native.Mathlib.Nat.{div-add-mod', mod-lt, mul-le-mul-right, div-le-self}
+use native.Mathlib.Nat.{div-add-mod', mod-lt, mul-le-mul-right}
 use lib.IntN.{ℤ, pos, negsuc, negℤ, _+ℤ_, _-ℤ_, _*ℤ_}
 use lib.Signed.{_<ℤ_, _≤ℤ_}
 use mir.Syntax.{w64}
@@ -10,7 +10,6 @@ use mir.Val.{SFits}
 use borrow.Author.Differences.{up, down, ints}
 use Rattle.std.proofs.shelf.Bits.{mul-le}
 use Rattle.std.proofs.shelf.Signed.{by-ltZ}
-use Rattle.std.specs.Numbers.{divEuclid}
 use Rattle.amounts.specs.Floor.{floorDiv, ceilDiv, nearest, Under}
 use Rattle.amounts.specs.Laws.{Rounds-down, Rounds-to-nearest}
 
@@ -70,14 +69,6 @@ gain-fits s x t r b d er eb te h f =
     let e = ap (λ z. floorDiv z d) te in
     omega (arith, ints)
 
-pub floor-under : (x : ℤ) (d b : ℕ) → Under b x → Under b (floorDiv x d)
-floor-under (pos a) d b h = let l = div-le-self a d in omega (arith, ints)
-floor-under (negsuc a) d b h = let l = div-le-self a d in omega (arith, ints)
-
--- the same, of a result: x is found from the equation
-pub floored-under : (x r : ℤ) (d b : ℕ) → r ≡ floorDiv x d → Under b x → Under b r
-floored-under x r d b e h = let u = floor-under x d b h in omega (arith, ints)
-
 -- a product of two numbers with bounds
 pub times-under : (x y : ℤ) (a b : ℕ) → Under a x → Under b y → Under (a * b) (x *ℤ y)
 times-under (pos m) (pos n) a b h k = let l = mul-le m n a b (omega (arith, ints)) (omega (arith, ints)) in omega (arith, ints)
@@ -88,8 +79,3 @@ times-under (negsuc m) (negsuc n) a b h k = let l = mul-le (suc m) (suc n) a b (
 -- the nearest cent of a number with a bound
 pub nearest-under : (v : ℤ) (b : ℕ) → Under (1000 * b) v → Under b (nearest v)
 nearest-under v b h = let f = floor-is (v +ℤ pos 500) 1000 (omega arith) in omega (arith, ints)
-
--- what `div_euclid` by a positive number answers
-pub euclid-is-floor : (x : ℤ) (d : ℕ) → divEuclid x (pos d) ≡ floorDiv x d
-euclid-is-floor (pos a) d = refl
-euclid-is-floor (negsuc a) d = refl

@@ -1,26 +1,24 @@
 -- What every exchange keeps to.
-use Prim.Native.Nat.{ℕ, zero, suc, _+_, _*_, _≤_, _<_}
-use mathlib.Core.Path.{_≡_, refl, sym, ap, _∙_, subst}
-use mathlib.Core.Bool.{Bool, true, false, cond, not}
-use mathlib.Core.List.{List, [], _∷_, _++_}
-use mathlib.Core.Logic.{_⊎_, inl, inr, ⊎-elim}
+use Prim.Native.Nat.{ℕ, _≤_}
+use mathlib.Core.Path.{_≡_, refl, sym, ap, _∙_}
+use mathlib.Core.Bool.{true}
+use mathlib.Core.List.{List, [], _++_}
+use mathlib.Core.Logic.{⊎-elim}
 use native.Mathlib.Omega.{arith}
-use lib.IntN.{ℤ, pos, negsuc, negℤ, _-ℤ_, _*ℤ_}
+use lib.IntN.{ℤ, pos, negℤ, _-ℤ_, _*ℤ_}
 use lib.ListN.{length, take}
 use borrow.Author.Differences.{ints}
 use Rattle.std.specs.shelf.Lists.{All}
-use Rattle.std.specs.declared.result.Result.the-variants.{Ok, Err}
+use Rattle.std.specs.declared.result.Result.the-variants.{Ok}
 use Rattle.std.proofs.shelf.Tests.{cases-bool}
 use Rattle.amounts.specs.Floor.{Under}
 use Rattle.amounts.proofs.Floors.{times-under, nearest-under}
 use Rattle.wire.specs.Bytes.{Byte}
-use Rattle.record.specs.declared.Posting.{Posting}
 use Rattle.record.specs.Meaning.{total, Fair}
 use Rattle.record.proofs.Checks.{none-of, passes-none}
 use Rattle.exchange.specs.declared.Exchange.{Exchange}
-use Rattle.exchange.specs.Meaning.{passing, faultOf, shareOf, worth, ownKey, ownPostings, keyOf, postings, fourPostings}
-use Rattle.exchange.specs.Sound.{Sound}
-use Rattle.exchange.specs.Bytes.{fieldsOf, bytesOf, readOf}
+use Rattle.exchange.specs.Meaning.{passing, faultOf, shareOf, worth, keyOf, postings, fourPostings}
+use Rattle.exchange.specs.Bytes.{bytesOf, readOf}
 use Rattle.exchange.proofs.Passing.{passing-sound, share-under, by-passing, key-when, no-key-when}
 use Rattle.exchange.proofs.Bytes as bytes
 

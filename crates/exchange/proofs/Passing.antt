@@ -1,21 +1,20 @@
 -- What follows of an exchange that passes.
-use Prim.Native.Nat.{ℕ, zero, suc, _+_, _*_, _≤_, _<_}
+use Prim.Native.Nat.{ℕ, suc, _≤_}
 use mathlib.Core.Path.{_≡_, refl, sym, ap, _∙_, subst}
-use mathlib.Core.Bool.{Bool, true, false, _&&_, not, cond}
-use mathlib.Core.List.{List, [], _∷_}
+use mathlib.Core.Bool.{Bool, true, false, cond}
+use mathlib.Core.List.{List, []}
 use native.Mathlib.Omega.{arith}
 use native.Mathlib.Nat.{mul-le-mul-left}
 use lib.Dec.{leb, eqb}
-use lib.ListN.{getD, length}
+use lib.ListN.{getD}
 use Rattle.std.proofs.shelf.Lists.{getD-past}
 use Rattle.record.specs.Meaning.{no-posting}
 use lib.IntN.{ℤ, pos, negsuc, natAbs, _-ℤ_, _*ℤ_}
-use lib.Signed.{leZ, _≤ℤ_}
-use borrow.Author.Differences.{up, down, ints}
+use borrow.Author.Differences.{ints}
 use Rattle.std.specs.declared.option.Option.the-variants.{None}
-use Rattle.std.proofs.shelf.Tests.{and-parts, eqb-true, eqb-false, ne-eqb, leb-true, not-true, cond-true, cond-false, cases-bool}
-use Rattle.amounts.specs.Floor.{floorDiv, nearest, Under}
-use Rattle.amounts.proofs.Floors.{floor-is, times-under, nearest-under}
+use Rattle.std.proofs.shelf.Tests.{and-parts, ne-eqb, leb-true, cond-true, cond-false}
+use Rattle.amounts.specs.Floor.{Under}
+use Rattle.amounts.proofs.Floors.{floor-is}
 use Rattle.record.proofs.Checks.{all-hold, none-of}
 use Rattle.record.specs.declared.Posting.{Posting}
 use Rattle.exchange.specs.declared.Exchange.{Exchange}
@@ -38,8 +37,7 @@ faultless-sound e h =
     let exporter = in-range 1 32 (e .exporter) (a .1 .1 .1 .0) in
     let volume = in-range 1 1000000 (e .volume) (a .1 .1 .1 .1 .0) in
     let b = a .1 .1 .1 .1 .1 in
-    let falling : leZ (e .exporting) (e .importing) ≡ true = b .1 .1 .1 .1 .1 .0 in
-    record { product-low = product .0; product-high = product .1; period-low = period .0; period-high = period .1; importer-low = importer .0; importer-high = importer .1; exporter-low = exporter .0; exporter-high = exporter .1; volume-low = volume .0; volume-high = volume .1; importing-fair = is-within 9999999 (e .importing) (b .0); exporting-fair = is-within 9999999 (e .exporting) (b .1 .0); percentage-high = leb-true (e .percentage) 100 (b .1 .1 .0); reserved-zero = eqb-true (e .reserved) 0 (b .1 .1 .1 .0); apart = eqb-false (e .importer) (e .exporter) (not-true _ (b .1 .1 .1 .1 .0)); falls = omega (arith, ints) }
+    record { product-high = product .1; period-high = period .1; importer-low = importer .0; importer-high = importer .1; exporter-low = exporter .0; exporter-high = exporter .1; volume-high = volume .1; importing-fair = is-within 9999999 (e .importing) (b .0); exporting-fair = is-within 9999999 (e .exporting) (b .1 .0); percentage-high = leb-true (e .percentage) 100 (b .1 .1 .0) }
 
 pub passing-sound : (e : Exchange) → passing e ≡ true → Sound e
 passing-sound e h = faultless-sound e (none-of (faultOf e) h)

@@ -7,7 +7,6 @@ use lib.IntN.{ℤ, pos, negℤ, _-ℤ_, _*ℤ_}
 use lib.Signed.{leZ}
 use Rattle.std.specs.Options.{isSome}
 use Rattle.std.specs.declared.option.Option.{Option}
-use Rattle.std.specs.declared.option.Option.the-variants.{Some}
 use Rattle.amounts.specs.Floor.{floorDiv, nearest}
 use Rattle.refusal.specs.declared.Refusal.{Refusal}
 use Rattle.refusal.specs.Told.{detailed, plain}

@@ -2,7 +2,7 @@
 use Prim.Native.Nat.{ℕ}
 use mathlib.Core.Path.{_≡_}
 use mathlib.Core.List.{List, [], _∷_}
-use lib.IntN.{ℤ, pos, negℤ}
+use lib.IntN.{pos, negℤ}
 use Rattle.std.specs.declared.result.Result.the-variants.{Ok}
 use Rattle.amounts.specs.Floor.{nearest}
 use Rattle.record.specs.declared.Posting.{Posting}

@@ -12,7 +12,7 @@ use mir.Syntax.{Width}
 use mir.Val.{toZ, ofZ, SFits, bits}
 use Rattle.std.specs.shelf.Lists.{All}
 use Rattle.std.proofs.shelf.Lists.{take-all}
-use Rattle.std.proofs.shelf.Signed.{toZ-ofZ, ofZ-toZ, ints}
+use Rattle.std.proofs.shelf.Signed.{toZ-ofZ, ofZ-toZ}
 use Rattle.wire.specs.Bytes.{Byte, bytes, number, signedBytes, signedNumber}
 
 pub length-bytes : (n v : ℕ) → length (bytes n v) ≡ n

@@ -1,14 +1,12 @@
 -- Writing one part after another into a page.
 use mathlib.Core.Path.{_≡_, refl, sym, ap, _∙_}
-use mathlib.Core.List.{List, [], _∷_, _++_, append-assoc}
-use Prim.Native.Nat.{ℕ, suc, _+_, _-_, _*_, _≤_, _<_}
+use mathlib.Core.List.{List, [], _++_, append-assoc}
+use Prim.Native.Nat.{ℕ, _+_, _≤_}
 use native.Mathlib.Omega.{arith}
-use lib.ListN.{length, take, drop, getD, set, take-append-drop, length-append, length-take, length-drop}
-use lib.Seq.{take-append-seam, drop-append-seam, drop-drop}
-use lib.IntN.{ℤ}
-use borrow.Author.Needs.{needs}
+use lib.ListN.{length, take, drop, take-append-drop, length-append, length-take}
+use lib.Seq.{drop-drop}
 use borrow.Rule.Slice.PartMut.{putMid}
-use Rattle.std.proofs.shelf.Lists.{take-at, drop-at, length-take-le, set-split}
+use Rattle.std.proofs.shelf.Lists.{take-at, drop-at}
 use Rattle.wire.specs.Bytes.{placed}
 
 length-front : (at : ℕ) (xs bs : List ℕ) (a : ℕ) → a ≡ at + length bs → a ≤ length xs → length (take at xs ++ bs) ≡ a
@@ -27,11 +25,6 @@ placed-more at a k xs bs cs ea ek h =
     ∙ ap (λ r. (take at xs ++ bs) ++ (cs ++ r)) rest
     ∙ simp append-assoc
 
-pub placed-one : (at : ℕ) (xs : List ℕ) (b : ℕ) → at < length xs → set xs at b ≡ placed at (b ∷ []) xs
-placed-one at xs b h =
-    let e : suc at ≡ at + 1 = omega arith in
-    set-split xs at b h ∙ ap (λ n. take at xs ++ (b ∷ drop n xs)) e
-
 pub placed-then : (at a : ℕ) (xs bs cs : List ℕ) → a ≡ at + length bs → a + length cs ≤ length xs
     → placed a cs (placed at bs xs) ≡ placed at (bs ++ cs) xs
 placed-then at a xs bs cs ea h =
@@ -42,15 +35,6 @@ pub placed-none : (at : ℕ) (xs : List ℕ) → xs ≡ placed at [] xs
 placed-none at xs =
     let e : at ≡ at + 0 = omega arith in
     sym (take-append-drop at xs) ∙ ap (λ n. take at xs ++ drop n xs) e
-
-pub placed-push : (at a : ℕ) (xs bs : List ℕ) (b : ℕ) → a ≡ at + length bs → a < length xs
-    → set (placed at bs xs) a b ≡ placed at (bs ++ (b ∷ [])) xs
-placed-push at a xs bs b ea h =
-    let long : length (placed at bs xs) ≡ length xs = simp (length-append, length-take, length-drop) (omega arith) in
-    placed-one a (placed at bs xs) b (omega arith) ∙ placed-then at a xs bs (b ∷ []) ea (omega arith)
-
-pub length-placed : (at : ℕ) (xs bs : List ℕ) → at + length bs ≤ length xs → length (placed at bs xs) ≡ length xs
-length-placed at xs bs h = simp (length-append, length-take, length-drop) (omega arith)
 
 -- ys is the page xs with bs written from a place on, and e is the place after them.
 pub record Wrote (at : ℕ) (bs xs ys : List ℕ) (e : ℕ) : Type 0 where

@@ -4,7 +4,6 @@ use lib.IntN.{pos, _*ℤ_}
 use mir.Syntax.{w32, w64}
 use mir.Val.{SFits}
 use borrow.Author.Differences.{ints}
-use borrow.Author.Needs.{needs}
 use Rattle.std.proofs.shelf.Signed.{toZ-ofZ, toZ-pos}
 use Rattle.amounts.proofs.Floors.{times-under, nearest-under}
 use Rattle.exchange.proofs.worth_of.Needs as need

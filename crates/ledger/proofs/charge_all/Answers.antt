@@ -1,7 +1,5 @@
-use mathlib.Core.Path.{_≡_, ap, sym, _∙_}
-use native.Mathlib.Omega.{arith}
 use borrow.Author.Needs.{needs}
-use Rattle.std.proofs.shelf.Lists.{take-all, drop-all, append-nil, getD-default}
+use Rattle.std.proofs.shelf.Lists.{take-all, drop-all, append-nil}
 use Rattle.std.proofs.shelf.Edits.{map-over-more}
 use Rattle.ledger.specs.Moves.{charge}
 use Rattle.ledger.proofs.charge_all.Needs as need

@@ -1,8 +1,8 @@
 use mathlib.Core.Path.{_≡_, sym, ap, _∙_}
-use mathlib.Core.Bool.{true, not}
+use mathlib.Core.Bool.{not}
 use Rattle.std.specs.Options.{isSome}
 use Rattle.record.proofs.Checks.{not-some}
-use Rattle.exchange.specs.Meaning.{passing, faultOf}
+use Rattle.exchange.specs.Meaning.{passing}
 use Rattle.exchange.proofs.Passing.{passing-sound}
 use Rattle.exchange.proofs.Exchange.passes.Needs as need
 

@@ -1,4 +1,4 @@
-use mathlib.Core.Path.{_≡_, sym, _∙_}
+use mathlib.Core.Path.{sym, _∙_}
 use Rattle.exchange.proofs.Passing.{other-key}
 use Rattle.exchange.proofs.ExchangeRecord.has_key.Needs as need
 
