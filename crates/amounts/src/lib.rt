@@ -44,16 +44,14 @@ pub fn cut(amounts: &[i64], divisor: u32, parts: &mut [i64])
 }
 
 /// What rounding and cutting promise, for every amount and every divisor above 0.
-pub fn rounding_stands() -> u8
+pub fn rounding_stands()
     ensures rounds { λ _. ⌜ Rounds-down ⌝ }
     ensures halves { λ _. ⌜ Rounds-to-nearest ⌝ }
     ensures adds { λ _. ⌜ Adds-up ⌝ }
     ensures between { λ _. ⌜ Lies-between ⌝ }
     ensures bounds { λ _. ⌜ Keeps-bounds ⌝ }
     ensures many { λ _. ⌜ As-many ⌝ }
-{
-    0
-}
+{}
 
 /// `x / divisor`, rounded down, for a sum that may need more than 64 bits.
 fn floor(x: i128, divisor: u32) -> i128

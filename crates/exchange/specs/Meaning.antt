@@ -12,7 +12,7 @@ use Rattle.refusal.specs.declared.Refusal.{Refusal}
 use Rattle.refusal.specs.Told.{detailed, plain}
 use Rattle.record.specs.declared.Posting.{Posting}
 use Rattle.record.specs.Meaning.{post}
-use Rattle.record.specs.Reading.{Check, check, firstOf, inRange, within}
+use Rattle.record.specs.Reading.{Check, check, firstOf, inRange, isMember, isPeriod, within}
 use Rattle.exchange.specs.declared.Exchange.{Exchange}
 use Rattle.exchange.specs.declared.ExchangeField.{ExchangeField}
 use Rattle.exchange.specs.declared.ExchangeField.the-variants.{Product, Period, Importer, Exporter, Volume, ImportingPrice, ExportingPrice, Percentage, Reserved}
@@ -23,9 +23,9 @@ use Rattle.exchange.specs.declared.ExchangeFault.the-variants.{CutOff, OutOfRa
 abbrev pub checks : Exchange → List (Check ExchangeFault)
 checks e =
     check (inRange 1 3 (e .product)) (OutOfRange Product)
-    ∷ check (inRange 1 2980 (e .period)) (OutOfRange Period)
-    ∷ check (inRange 1 32 (e .importer)) (OutOfRange Importer)
-    ∷ check (inRange 1 32 (e .exporter)) (OutOfRange Exporter)
+    ∷ check (isPeriod (e .period)) (OutOfRange Period)
+    ∷ check (isMember (e .importer)) (OutOfRange Importer)
+    ∷ check (isMember (e .exporter)) (OutOfRange Exporter)
     ∷ check (inRange 1 1000000 (e .volume)) (OutOfRange Volume)
     ∷ check (within 9999999 (e .importing)) (OutOfRange ImportingPrice)
     ∷ check (within 9999999 (e .exporting)) (OutOfRange ExportingPrice)

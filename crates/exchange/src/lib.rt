@@ -10,12 +10,12 @@ ghost use Rattle.exchange.specs.Sound.{Sound};
 ghost use Rattle.exchange.specs.Bytes.{bytesOf, fieldsOf, readOf};
 use amounts::nearest_cent;
 use amounts::round_down;
-use record::MEMBERS;
-use record::PERIODS;
 use record::Posting;
 use record::Record;
 use record::WriteFault;
 use record::in_range;
+use record::is_member;
+use record::is_period;
 use record::is_within;
 use refusal::Refusal;
 use refusal::Refused;
@@ -161,13 +161,13 @@ impl Exchange {
         if !in_range(1, 3, self.product as u32) {
             return Some(ExchangeFault::OutOfRange(ExchangeField::Product));
         }
-        if !in_range(1, PERIODS, self.period as u32) {
+        if !is_period(self.period) {
             return Some(ExchangeFault::OutOfRange(ExchangeField::Period));
         }
-        if !in_range(1, MEMBERS, self.importer as u32) {
+        if !is_member(self.importer) {
             return Some(ExchangeFault::OutOfRange(ExchangeField::Importer));
         }
-        if !in_range(1, MEMBERS, self.exporter as u32) {
+        if !is_member(self.exporter) {
             return Some(ExchangeFault::OutOfRange(ExchangeField::Exporter));
         }
         if !in_range(1, MOST_VOLUME, self.volume) {

@@ -11,7 +11,7 @@ use Rattle.std.specs.declared.result.Result.the-variants.{Ok, Err}
 use Rattle.refusal.specs.declared.MemberFault.{MemberFault}
 use Rattle.refusal.specs.declared.MemberFault.the-variants.{Unknown}
 use Rattle.record.specs.declared.Posting.{Posting}
-use Rattle.record.specs.Reading.{inRange}
+use Rattle.record.specs.Reading.{isMember}
 use Rattle.ledger.specs.declared.Account.{Account}
 use Rattle.ledger.specs.declared.Ledger.{Ledger}
 
@@ -26,7 +26,7 @@ newLedger = ledgerOf (replicate 32 no-account)
 
 -- the account of a member 1 to 32
 abbrev pub accountOf : Ledger → ℕ → Result Account MemberFault
-accountOf l m = cond (inRange 1 32 m) (Ok (getD (l .accounts) (m - 1) no-account)) (Err Unknown)
+accountOf l m = cond (isMember m) (Ok (getD (l .accounts) (m - 1) no-account)) (Err Unknown)
 
 -- an amount is added to the balance, and held within 64 bits
 abbrev pub raised : Account → ℤ → Account

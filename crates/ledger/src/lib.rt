@@ -7,6 +7,7 @@ ghost use Rattle.record.specs.Meaning.{Fair};
 ghost use Rattle.ledger.specs.Moves.{accountOf, allPosted, charge, issued, newLedger, posted-to};
 use record::Posting;
 use record::Record;
+use record::is_member;
 use refusal::MemberFault;
 
 /// A member's account: the balance, what was charged so far, and the last charge.
@@ -41,7 +42,7 @@ impl Ledger {
     pub fn account(&self, member: u8) -> Result<Account, MemberFault>
         ensures { λ r. ⌜ r ≡ accountOf (now (self .entry)) member ⌝ }
     {
-        if member < 1 || member > 32 {
+        if !is_member(member) {
             return Err(MemberFault::Unknown);
         }
         Ok(self.accounts[(member - 1) as usize])

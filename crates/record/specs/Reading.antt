@@ -17,6 +17,13 @@ use Rattle.refusal.specs.Told.{detailed, plain, layerOf}
 abbrev pub inRange : ℕ → ℕ → ℕ → Bool
 inRange low high n = leb low n && leb n high
 
+-- members are numbered 1 to 32, the quarter hours of a month 1 to 2,980
+abbrev pub isMember : ℕ → Bool
+isMember n = inRange 1 32 n
+
+abbrev pub isPeriod : ℕ → Bool
+isPeriod n = inRange 1 2980 n
+
 -- -limit ≤ z ≤ limit
 abbrev pub within : ℕ → ℤ → Bool
 within limit z = leb (natAbs z) limit

@@ -13,16 +13,10 @@ ghost use Rattle.refusal.specs.Told.{plain};
 ghost use Rattle.wire.specs.Bytes.{Byte};
 ghost use Rattle.record.specs.declared.Posting.{Posting};
 ghost use Rattle.record.specs.Meaning.{Fair, no-posting, post, total};
-ghost use Rattle.record.specs.Reading.{OfRecord, inRange, refusalOf, within};
+ghost use Rattle.record.specs.Reading.{OfRecord, inRange, isMember, isPeriod, refusalOf, within};
 ghost use Rattle.record.specs.Writing.{pageAfter, toldOf, writes};
 use refusal::Refusal;
 use refusal::Refused;
-
-/// Members are numbered from 1 to this.
-pub const MEMBERS: u32 = 32;
-
-/// The quarter hours of a month are numbered from 1 to this.
-pub const PERIODS: u32 = 2_980;
 
 /// An amount in cents for one member: above zero it is paid to the member, below zero by it.
 #[derive(Clone, Copy)]
@@ -177,6 +171,20 @@ pub trait Record: Copy {
         }
         n
     }
+}
+
+/// Whether this is the number of a member.
+pub fn is_member(n: u8) -> bool
+    ensures { λ r. ⌜ r ≡ isMember n ⌝ }
+{
+    in_range(1, 32, n as u32)
+}
+
+/// Whether this is the number of a quarter hour of a month.
+pub fn is_period(n: u16) -> bool
+    ensures { λ r. ⌜ r ≡ isPeriod n ⌝ }
+{
+    in_range(1, 2980, n as u32)
 }
 
 /// Whether `low <= n <= high`.
