@@ -6,27 +6,32 @@ use refusal::Refusal;
 use refusal::Refused;
 
 #[derive(Clone, Copy)]
-pub enum BookState {
+pub(crate) enum BookState {
     Open,
     Closed,
 }
 
+/// The number, the edition and the state of a book, with its accounts.
 #[derive(Clone, Copy)]
-pub struct Register {
-    pub number: u32,
-    pub edition: u16,
-    pub state: BookState,
+pub(crate) struct Register {
+    pub(crate) number: u32,
+    pub(crate) edition: u16,
+    pub(crate) state: BookState,
     /// How many slots are booked, withdrawn ones counted.
-    pub used: usize,
-    pub ledger: Ledger,
+    pub(crate) used: usize,
+    pub(crate) ledger: Ledger,
 }
 
-/// Why a call is refused, from the book's state.
+/// Why a call is refused.
 #[derive(Clone, Copy)]
 pub enum BookFault {
+    /// The record is blank.
     Blank,
+    /// The book's state does not admit the call.
     State,
+    /// All slots are used.
     Full,
+    /// The record of this number stands under the same key.
     Stands(u16),
 }
 
@@ -44,7 +49,7 @@ pub impl Refused for BookFault as BookFaultRefused {
 }
 
 /// Whether records may change.
-pub fn may_change(state: BookState) -> bool
+pub(crate) fn may_change(state: BookState) -> bool
     ensures { λ r. ⌜ r ≡ changes state ⌝ }
 {
     match state {

@@ -21,13 +21,13 @@ pub struct Slot<R> {
 
 /// The slots that a book's opener lends.
 #[derive(Drop)]
-pub struct Shelf<'a, R: Record> {
-    pub slots: &'a mut [Slot<R>],
+pub(crate) struct Shelf<'a, R: Record> {
+    pub(crate) slots: &'a mut [Slot<R>],
 }
 
 impl<'a, R: Record> Shelf<'a, R> {
     /// The number of the standing record with a key, counted from 1, among the first `used` slots.
-    pub fn number_of(&self, used: usize, key: u32) -> Option<u16>
+    pub(crate) fn number_of(&self, used: usize, key: u32) -> Option<u16>
         requires within { ⌜ used ≤ length (now (now self .slots)) ⌝ }
         requires small { ⌜ used ≤ 4096 ⌝ }
         ensures { λ r. ⌜ r ≡ lookup keyed key 0 (take used (now (now (self .entry) .slots))) ⌝ }
@@ -36,7 +36,7 @@ impl<'a, R: Record> Shelf<'a, R> {
     }
 
     /// Writes one slot whole.
-    pub fn write(&mut self, at: usize, slot: Slot<R>)
+    pub(crate) fn write(&mut self, at: usize, slot: Slot<R>)
         requires { ⌜ at < length (now (now self .slots)) ⌝ }
         ensures after { λ _. ⌜ now (now (self .exit) .slots) ≡ set (now (now (self .entry) .slots)) at slot ⌝ }
         ensures lent { λ _. ⌜ name (now (self .exit) .slots) ≡ name (now (self .entry) .slots) ⌝ }
