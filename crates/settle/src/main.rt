@@ -148,12 +148,16 @@ fn put_accounts<R: Record>(book: &Book<R>, page: &mut [u8], at: usize) -> Result
 
 #[cfg(test)]
 mod tests {
+    use super::INPUT;
+    use super::PAGE;
+    use super::read_up_to;
     use super::settle;
+    use std::io::Cursor;
     use std::test::*;
 
     // Checks the report of a file, and that the page after it stays as it was.
     fn reports(file: &[u8], expected: &[u8]) -> Result<(), Fail> {
-        let mut page = [7; 40];
+        let mut page = [7; 60];
         match settle(file, &mut page) {
             Err(_) => Err(Fail::new("the page is too short")),
             Ok(end) => {
@@ -182,6 +186,100 @@ mod tests {
     #[test]
     fn files_without_commands() -> Result<(), Fail> {
         reports(&[1, 0, 0, 0, 7], b"")
+    }
+
+    #[test]
+    fn open_books_show_their_balances() -> Result<(), Fail> {
+        reports(
+            &[
+                1,
+                0,
+                0,
+                0,
+                7,
+                0x10,
+                3,
+                0,
+                1,
+                5,
+                1,
+                32,
+                0,
+                0,
+                48,
+                57,
+                0,
+                0,
+                23,
+                113,
+                0,
+                0,
+                15,
+                160,
+                50,
+                0,
+            ],
+            b"B 1 -61731 0\nB 32 61731 0\n",
+        )
+    }
+
+    #[test]
+    fn the_65th_booking_finds_no_slot() -> Result<(), Fail> {
+        let mut file = [0; 1370];
+        file[0] = 1;
+        for i in 0..65usize {
+            book_at(&mut file, 5 + 21 * i, i as u8 + 1);
+        }
+        reports(&file, b"R 1349 book 22\nB 1 -3950784 0\nB 2 3950784 0\n")
+    }
+
+    // A booking at a place of a file, in this quarter hour.
+    fn book_at(file: &mut [u8; 1370], place: usize, period: u8) {
+        if place > 1370 - 21 {
+            return;
+        }
+        file[place..place + 21].copy_from_slice(
+            &[
+                0x10,
+                3,
+                0,
+                period,
+                5,
+                1,
+                2,
+                0,
+                0,
+                48,
+                57,
+                0,
+                0,
+                23,
+                113,
+                0,
+                0,
+                15,
+                160,
+                50,
+                0,
+            ],
+        );
+    }
+
+    #[test]
+    fn the_longest_report_fits_its_page(rt: LibcRuntime) -> Result<(), Fail> {
+        let mut page = vec![in rt.alloc(); 0u8; PAGE]?;
+        let mut file = [0x13; 32768];
+        file[0] = 1;
+        check(settle(&file, &mut page).is_ok())
+    }
+
+    #[test]
+    fn longer_inputs_are_refused_unread() -> Result<(), Fail> {
+        let mut input = [0; INPUT];
+        let n = read_up_to(&mut Cursor::new(&[1; 40000]), &mut input)?;
+        check(n == INPUT)?;
+        reports(&input[0..n], b"R 0 file 1\n")?;
+        reports(&input[0..n - 1], b"R 5 file 3\n")
     }
 
     #[test]

@@ -16,8 +16,7 @@ front ps rest list n e f = ap (take (n - 0)) f ∙ take-at ps rest (n - 0) (omeg
 
 pub post-all-requires : need.post-all-requires
 post-all-requires g c κs =
-    let ps = g .R·Record .posted (c .args .item .now) in
-    subst (All Fair) (sym (front ps _ _ _ (c .fill-n .ensures .count) (c .fill-n .ensures .after))) (g .R·Record·met .fair (c .args .item .now))
+    subst (All Fair) (sym (front _ _ _ _ (c .fill-n .ensures .count) (c .fill-n .ensures .after))) (g .R·Record·met .fair _)
 
 pub returns : need.returns
 returns g c =
