@@ -1,4 +1,6 @@
 //! Exact amounts rounded to whole cents.
+#![tactic(auto)]
+
 ghost use Rattle.std.specs.Prelude.{◌≡◌, ◌<◌, length};
 ghost use Rattle.amounts.specs.Cut.{cutting};
 ghost use Rattle.amounts.specs.Floor.{floor_div, nearest};

@@ -1,4 +1,5 @@
 //! What every history of calls on a book comes to.
+#![tactic(auto)]
 ghost use Rattle.history.specs.History.{HistoryStands};
 
 use record::Record;

@@ -1,4 +1,5 @@
 //! The accounts of the members, and what postings and statements do to them.
+#![tactic(auto)]
 ghost use Rattle.std.specs.Prelude.{◌≡◌, ◌≤◌, map, pos, neg_ℤ, ◌≤ℤ◌};
 ghost use Rattle.std.specs.List.{AllByRecursion as All};
 ghost use Rattle.record.specs.Meaning.{Fair};

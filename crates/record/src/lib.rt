@@ -1,4 +1,5 @@
 //! What a kind of record means: its key, its postings and its bytes.
+#![tactic(auto)]
 ghost use Rattle.std.specs.Prelude.{◌≡◌, ℕ, ◌<◌, ◌≤◌, List, [], ◌++◌, length, take, drop, pos, Some, Ok, Err, Result, ◌==◌, ◌≢◌, slice_index_or};
 ghost use Rattle.std.specs.List.{AllByRecursion as All};
 ghost use Rattle.refusal.specs.Told.{plain};

@@ -1,4 +1,5 @@
 //! Executes reckoned examples, and prints each with its result.
+#![tactic(auto)]
 use amounts::{cut, nearest_cent};
 use book::{Book, BookFault, Slot, SlotState};
 use exchange::Exchange;

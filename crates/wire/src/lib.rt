@@ -1,4 +1,5 @@
 //! Numbers in big-endian bytes: read from a part of a slice, written into a lent part of a page.
+#![tactic(auto)]
 ghost use Rattle.std.specs.Prelude.{◌≡◌, ℕ, ◌^◌, ◌<◌, List, length, ℤ, FitsSigned, refl};
 ghost use Rattle.std.specs.Int.{w8, w16, w32, w64};
 ghost use Rattle.std.specs.List.{AllByRecursion as All};
