@@ -10,11 +10,11 @@ part_fits c =
     let g = gain_fits _ (get_or c.args.amounts.now c.loop-i.i (pos 0)) _ _ _ c.args.divisor c.floor-figure.ensures c.loop-i.invariant.1 (omega (arith, ints)) c.requires.some fits in
     omega (arith, ints)
 
-pub overflow-sub-parts : goal.overflow-sub-parts
-overflow-sub-parts c = let p = part_fits c in omega (arith, ints)
+pub overflow_sub-parts : goal.overflow_sub-parts
+overflow_sub-parts c = let p = part_fits c in omega (arith, ints)
 
-pub overflow-cast-parts : goal.overflow-cast-parts
-overflow-cast-parts c = let p = part_fits c in omega (arith, ints)
+pub overflow_cast-parts : goal.overflow_cast-parts
+overflow_cast-parts c = let p = part_fits c in omega (arith, ints)
 
 pub loop-i-preserved : goal.loop-i-preserved
 loop-i-preserved c =

@@ -19,14 +19,14 @@ returns c =
     let xs = c.args.page.now in
     let f : SFits w64 x = c.ranges.balance in
     let g : SFits w64 y = c.ranges.charged in
-    let letter : Wrote 0 (66 ∷ []) (replicate 65 0) c.put-text-end.new.out c.put-text-end.result =
-    record { page = c.put-text-end.ensures.after; end = c.put-text-end.ensures.end } in
-    let member = wrote_then (32 ∷ decimal m) letter c.put-unsigned-end.ensures.after c.put-unsigned-end.ensures.end (omega arith) in
-    let balance = wrote_then (32 ∷ signed_decimal x) member (simp to_z-of_z at c.put-signed-end.ensures.after) (simp to_z-of_z at c.put-signed-end.ensures.end) (omega arith) in
-    let charged = wrote_then (32 ∷ signed_decimal y) balance (simp to_z-of_z at c.put-signed-end-2.ensures.after) (simp to_z-of_z at c.put-signed-end-2.ensures.end) (omega arith) in
-    let feed = wrote_then (10 ∷ []) charged c.put-text-end-2.ensures.after c.put-text-end-2.ensures.end (omega arith) in
+    let letter : Wrote 0 (66 ∷ []) (replicate 65 0) c.put_text-end.new.out c.put_text-end.result =
+    record { page = c.put_text-end.ensures.after; end = c.put_text-end.ensures.end } in
+    let member = wrote_then (32 ∷ decimal m) letter c.put_unsigned-end.ensures.after c.put_unsigned-end.ensures.end (omega arith) in
+    let balance = wrote_then (32 ∷ signed_decimal x) member (simp to_z-of_z at c.put_signed-end.ensures.after) (simp to_z-of_z at c.put_signed-end.ensures.end) (omega arith) in
+    let charged = wrote_then (32 ∷ signed_decimal y) balance (simp to_z-of_z at c.put_signed-end-2.ensures.after) (simp to_z-of_z at c.put_signed-end-2.ensures.end) (omega arith) in
+    let feed = wrote_then (10 ∷ []) charged c.put_text-end-2.ensures.after c.put_text-end-2.ensures.end (omega arith) in
     let whole = wrote_whole (wrote_as (parts (decimal m) (signed_decimal x) (signed_decimal y)) feed) in
     record {
-      answer = c.put-line.ensures.answer ∙ ap (λ bs. written at bs xs) whole;
-      after = c.put-line.ensures.after ∙ ap (λ bs. page_after c.put-line.result at bs xs) whole;
+      answer = c.put_line.ensures.answer ∙ ap (λ bs. written at bs xs) whole;
+      after = c.put_line.ensures.after ∙ ap (λ bs. page_after c.put_line.result at bs xs) whole;
     }

@@ -20,16 +20,16 @@ returns c =
     let named : text ≡ name_of (layer_of n) = c.name.ensures ∙ ap name_of c.of.ensures in
     let long = ap length named in
     let short = name_short (layer_of n) in
-    let letter : Wrote 0 (82 ∷ []) (replicate 65 0) c.put-text-end.new.out c.put-text-end.result =
-    record { page = c.put-text-end.ensures.after; end = c.put-text-end.ensures.end } in
-    let place = wrote_then (32 ∷ decimal p) letter c.put-unsigned-end.ensures.after c.put-unsigned-end.ensures.end (omega arith) in
-    let space = wrote_then (32 ∷ []) place c.put-text-end-2.ensures.after c.put-text-end-2.ensures.end (omega arith) in
-    let layer = wrote_then text space c.put-text-end-3.ensures.after c.put-text-end-3.ensures.end (omega arith) in
-    let number = wrote_then (32 ∷ decimal n) layer c.put-unsigned-end-2.ensures.after c.put-unsigned-end-2.ensures.end (omega arith) in
-    let feed = wrote_then (10 ∷ []) number c.put-text-end-4.ensures.after c.put-text-end-4.ensures.end (omega arith) in
+    let letter : Wrote 0 (82 ∷ []) (replicate 65 0) c.put_text-end.new.out c.put_text-end.result =
+    record { page = c.put_text-end.ensures.after; end = c.put_text-end.ensures.end } in
+    let place = wrote_then (32 ∷ decimal p) letter c.put_unsigned-end.ensures.after c.put_unsigned-end.ensures.end (omega arith) in
+    let space = wrote_then (32 ∷ []) place c.put_text-end-2.ensures.after c.put_text-end-2.ensures.end (omega arith) in
+    let layer = wrote_then text space c.put_text-end-3.ensures.after c.put_text-end-3.ensures.end (omega arith) in
+    let number = wrote_then (32 ∷ decimal n) layer c.put_unsigned-end-2.ensures.after c.put_unsigned-end-2.ensures.end (omega arith) in
+    let feed = wrote_then (10 ∷ []) number c.put_text-end-4.ensures.after c.put_text-end-4.ensures.end (omega arith) in
     let joined = parts (decimal p) text (decimal n) ∙ ap (λ t. line (codes "R") (decimal p ∷ t ∷ decimal n ∷ [])) named in
     let whole = wrote_whole (wrote_as joined feed) in
     record {
-      answer = c.put-line.ensures.answer ∙ ap (λ bs. written at bs xs) whole;
-      after = c.put-line.ensures.after ∙ ap (λ bs. page_after c.put-line.result at bs xs) whole;
+      answer = c.put_line.ensures.answer ∙ ap (λ bs. written at bs xs) whole;
+      after = c.put_line.ensures.after ∙ ap (λ bs. page_after c.put_line.result at bs xs) whole;
     }

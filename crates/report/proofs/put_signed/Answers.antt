@@ -17,12 +17,12 @@ above (pos n) h = refl
 above (negsuc n) h = absurd (grind (arith, ints))
 
 -- What is written: the space, with the sign if there is one, and the digits.
-bytes : (c : After-unsigned-abs) → c.if-z-lt0.lead.now ++ decimal c.unsigned-abs.result ≡ 32 ∷ signed_decimal c.args.z
+bytes : (c : After-unsigned-abs) → c.if-z-lt0.lead.now ++ decimal c.unsigned_abs.result ≡ 32 ∷ signed_decimal c.args.z
 bytes c =
     let z = c.args.z in
-    let m = c.unsigned-abs.result in
+    let m = c.unsigned_abs.result in
     let f : SFits w64 z = c.ranges.z in
-    let abs : m ≡ nat_abs z = simp to_z-of_z at c.unsigned-abs.ensures.value in
+    let abs : m ≡ nat_abs z = simp to_z-of_z at c.unsigned_abs.ensures.value in
     elim c.if-z-lt0.branch [
       | then-z-lt0 w ↦
           (let minus = below z (simp to_z-of_z at w.if-z-lt0.true) in
@@ -32,19 +32,19 @@ bytes c =
           ap (λ s. s.now ++ decimal m) w.lead-is ∙ ap (λ k. 32 ∷ decimal k) abs ∙ ap (λ bs. 32 ∷ bs) (sym none))
     ]
 
-pub put-digits-requires : goal.put-digits-requires
-put-digits-requires c =
+pub put_digits-requires : goal.put_digits-requires
+put_digits-requires c =
     let short = signed_short c.args.z c.ranges.z in
     let long = simp length-append at (ap length (bytes c)) in
     omega arith
 
 pub returns : goal.returns
 returns c =
-    let m = c.unsigned-abs.result in
+    let m = c.unsigned_abs.result in
     let all = bytes (goal.at.returns c).After-unsigned-abs in
     let short = signed_short c.args.z c.ranges.z in
     let long = simp length-append at (ap length all) in
-    let front : Wrote c.args.at c.if-z-lt0.lead.now c.args.out.now c.put-text-end.new.out c.put-text-end.result =
-    record { page = c.put-text-end.ensures.after; end = c.put-text-end.ensures.end } in
-    let field = wrote_as all (wrote_then (decimal m) front c.put-digits.ensures.after c.put-digits.ensures.end (omega arith)) in
+    let front : Wrote c.args.at c.if-z-lt0.lead.now c.args.out.now c.put_text-end.new.out c.put_text-end.result =
+    record { page = c.put_text-end.ensures.after; end = c.put_text-end.ensures.end } in
+    let field = wrote_as all (wrote_then (decimal m) front c.put_digits.ensures.after c.put_digits.ensures.end (omega arith)) in
     record { short = omega arith; end = field.end; after = field.page }

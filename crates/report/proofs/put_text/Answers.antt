@@ -9,6 +9,6 @@ returns c =
     let n = at + length c.args.text.now - at in
     record {
       end = refl;
-      after = ap (put_mid at n c.args.out.now) c.copy-from-slice.ensures.after
+      after = ap (put_mid at n c.args.out.now) c.copy_from_slice.ensures.after
           ∙ placed_part at n c.args.out.now c.args.text.now (omega arith);
     }

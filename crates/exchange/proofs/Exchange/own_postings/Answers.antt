@@ -6,38 +6,38 @@ use Rattle.exchange.specs.Meaning.{share_of}
 use Rattle.exchange.specs.Passing.{own_when, shared_under}
 use Rattle.exchange.proofs.Exchange.own_postings.Goals as goal
 
-pub share-of-share-requires : goal.share-of-share-requires
-share-of-share-requires c = record { small = omega (arith, ints); part = c.requires.percentage_high }
+pub share_of-share-requires : goal.share_of-share-requires
+share_of-share-requires c = record { small = omega (arith, ints); part = c.requires.percentage_high }
 
 -- a value that was passed on
 passed : (b : ℕ) (z : ℤ) → SFits w64 z → Under b z → Under b (to_z w64 (of_z w64 z))
 passed b z f u = subst (Under b) (sym (to_z-of_z w64 z f)) u
 
-pub four-postings-requires : goal.four-postings-requires
-four-postings-requires c =
-    let fa : SFits w64 c.worth-of-a.result = search rules in
-    let fb : SFits w64 c.worth-of-b.result = search rules in
-    let fs : SFits w64 c.share-of-share.result = search rules in
-    let s = shared_under _ _ c.args.self.now.percentage c.share-of-share.ensures c.requires.percentage_high (omega (arith, ints)) in
+pub four_postings-requires : goal.four_postings-requires
+four_postings-requires c =
+    let fa : SFits w64 c.worth_of-a.result = search rules in
+    let fb : SFits w64 c.worth_of-b.result = search rules in
+    let fs : SFits w64 c.share_of-share.result = search rules in
+    let s = shared_under _ _ c.args.self.now.percentage c.share_of-share.ensures c.requires.percentage_high (omega (arith, ints)) in
     record {
-      a = passed 9999999000 c.worth-of-a.result fa c.worth-of-a.ensures.small;
-      b = passed 9999999000 c.worth-of-b.result fb c.worth-of-b.ensures.small;
-      share = passed 19999998000 c.share-of-share.result fs s;
+      a = passed 9999999000 c.worth_of-a.result fa c.worth_of-a.ensures.small;
+      b = passed 9999999000 c.worth_of-b.result fb c.worth_of-b.ensures.small;
+      share = passed 19999998000 c.share_of-share.result fs s;
     }
 
 pub returns : goal.returns
 returns c =
     let fi : SFits w32 c.args.self.now.importing = search rules in
     let fe : SFits w32 c.args.self.now.exporting = search rules in
-    let fa : SFits w64 c.worth-of-a.result = search rules in
-    let fb : SFits w64 c.worth-of-b.result = search rules in
-    let fs : SFits w64 c.share-of-share.result = search rules in
-    let fd : SFits w64 (c.worth-of-a.result -ℤ c.worth-of-b.result) = omega (arith, ints) in
-    let ea = simp to_z-of_z at c.worth-of-a.ensures.value in
-    let eb = simp to_z-of_z at c.worth-of-b.ensures.value in
-    let es = simp to_z-of_z at c.share-of-share.ensures in
-    let ta = to_z-of_z w64 c.worth-of-a.result fa in
-    let tb = to_z-of_z w64 c.worth-of-b.result fb in
-    let ts = to_z-of_z w64 c.share-of-share.result fs in
-    c.four-postings.ensures
+    let fa : SFits w64 c.worth_of-a.result = search rules in
+    let fb : SFits w64 c.worth_of-b.result = search rules in
+    let fs : SFits w64 c.share_of-share.result = search rules in
+    let fd : SFits w64 (c.worth_of-a.result -ℤ c.worth_of-b.result) = omega (arith, ints) in
+    let ea = simp to_z-of_z at c.worth_of-a.ensures.value in
+    let eb = simp to_z-of_z at c.worth_of-b.ensures.value in
+    let es = simp to_z-of_z at c.share_of-share.ensures in
+    let ta = to_z-of_z w64 c.worth_of-a.result fa in
+    let tb = to_z-of_z w64 c.worth_of-b.result fb in
+    let ts = to_z-of_z w64 c.share_of-share.result fs in
+    c.four_postings.ensures
     ∙ own_when c.args.self.now _ _ _ (ta ∙ ea) (tb ∙ eb) (ts ∙ es ∙ ap (λ z. share_of z c.args.self.now.percentage) (omega (arith, ints)))

@@ -7,5 +7,5 @@ use Rattle.exchange.proofs.Exchange.passes.Goals as goal
 pub returns : goal.returns
 returns c =
     let e = c.args.self.now in
-    let v : c.is-none.result ≡ passing e = not_some c.fault.result c.is-none.result c.is-none.ensures ∙ ap (λ o. not (is_some o)) c.fault.ensures in
+    let v : c.is_none.result ≡ passing e = not_some c.fault.result c.is_none.result c.is_none.ensures ∙ ap (λ o. not (is_some o)) c.fault.ensures in
     record { value = v; sound = λ h. passing_sound e (sym v ∙ h) }

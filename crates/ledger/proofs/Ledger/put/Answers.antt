@@ -5,11 +5,11 @@ use Rattle.ledger.specs.Moves.{all_posted}
 use Rattle.ledger.proofs.Fronts.{front}
 use Rattle.ledger.proofs.Ledger.put.Goals as goal
 
-pub post-all-requires : goal.post-all-requires
-post-all-requires g c =
+pub post_all-requires : goal.post_all-requires
+post_all-requires g c =
     subst (All Fair) (sym (front _ _ _ _ c.fill-n.ensures.count c.fill-n.ensures.after)) (g.met.R.Record.fair _)
 
 pub returns : goal.returns
 returns g c =
     let ps = g.R.Record.posted c.args.item.now in
-    c.post-all.ensures ∙ ap (all_posted c.args.self.now) (front ps _ _ _ c.fill-n.ensures.count c.fill-n.ensures.after)
+    c.post_all.ensures ∙ ap (all_posted c.args.self.now) (front ps _ _ _ c.fill-n.ensures.count c.fill-n.ensures.after)

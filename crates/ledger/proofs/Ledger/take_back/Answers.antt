@@ -5,11 +5,11 @@ use Rattle.ledger.specs.Moves.{all_posted, opposite}
 use Rattle.ledger.proofs.Fronts.{front}
 use Rattle.ledger.proofs.Ledger.take_back.Goals as goal
 
-pub unpost-all-requires : goal.unpost-all-requires
-unpost-all-requires g c =
+pub unpost_all-requires : goal.unpost_all-requires
+unpost_all-requires g c =
     subst (All Fair) (sym (front _ _ _ _ c.fill-count.ensures.count c.fill-count.ensures.after)) (g.met.R.Record.fair _)
 
 pub returns : goal.returns
 returns g c =
     let ps = g.R.Record.posted c.args.item.now in
-    c.unpost-all.ensures ∙ ap (λ qs. all_posted c.args.self.now (map opposite qs)) (front ps _ _ _ c.fill-count.ensures.count c.fill-count.ensures.after)
+    c.unpost_all.ensures ∙ ap (λ qs. all_posted c.args.self.now (map opposite qs)) (front ps _ _ _ c.fill-count.ensures.count c.fill-count.ensures.after)

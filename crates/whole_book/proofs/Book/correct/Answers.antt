@@ -4,8 +4,8 @@ use Rattle.whole_book.proofs.Accepted.{corrected_stands}
 use Rattle.whole_book.proofs.Numbers.{number_within}
 use Rattle.whole_book.proofs.Book.correct.Goals as goal
 
-pub overflow-sub-number : goal.overflow-sub-number
-overflow-sub-number g c =
+pub overflow_sub-number : goal.overflow_sub-number
+overflow_sub-number g c =
     let es = entries c.args.self.now.shelf.slots.now c.args.self.now.register in
     (number_within es c.args.number c.in-ok-old.old (corrected_stands g.R.Record.keyed es _ _ _ _ c.in-ok-old.ensures)).0
 

@@ -9,4 +9,4 @@ pub returns : goal.returns
 returns g c =
     let posted = g.R.Record.posted in
     let es = entries c.args.self.now.shelf.slots.now c.args.self.now.register in
-    finds posted c.args.member c.args.cents es _ (sym c.if-not-is-member.ensures) (c.number-giving.ensures ∙ ap (λ y. first_where (offers posted c.args.member y) 0 es) (to_z-of_z w64 c.args.cents c.ranges.cents))
+    finds posted c.args.member c.args.cents es _ (sym c.if-not-is_member.ensures) (c.number_giving.ensures ∙ ap (λ y. first_where (offers posted c.args.member y) 0 es) (to_z-of_z w64 c.args.cents c.ranges.cents))

@@ -8,6 +8,6 @@ pub returns : goal.returns
 returns g c =
     let ps = g.R.Record.posted c.args.item.now in
     let z = to_z w64 (of_z w64 c.args.cents) in
-    c.any-gives.ensures
+    c.any_gives.ensures
     ∙ ap (gives c.args.member z) (front ps _ _ _ c.fill-n.ensures.count c.fill-n.ensures.after)
     ∙ ap (λ y. gives c.args.member y ps) (to_z-of_z w64 c.args.cents c.ranges.cents)

@@ -7,5 +7,5 @@ returns-then-n-lt1 g c = sym (none_outside c.args.slots.now c.args.used c.args.n
 
 pub returns : goal.returns
 returns g c =
-    c.standing-in.ensures
+    c.standing_in.ensures
     ∙ sym (read_at c.args.slots.now c.args.used c.args.number c.index-slots-n.result c.requires (omega arith) (omega arith) c.index-slots-n.is)

@@ -5,6 +5,6 @@ use Rattle.wire.proofs.I64Field.get.Goals as goal
 
 pub returns : goal.returns
 returns c =
-    let e = number_copied 8 _ c.args.part.now c.requires c.copy-from-slice.ensures.after in
-    let fits : SFits w64 c.from-be-bytes.result = search rules in
-    to_z-of_z w64 c.from-be-bytes.result fits ∙ c.from-be-bytes.ensures ∙ ap (to_z w64) (omega arith)
+    let e = number_copied 8 _ c.args.part.now c.requires c.copy_from_slice.ensures.after in
+    let fits : SFits w64 c.from_be_bytes.result = search rules in
+    to_z-of_z w64 c.from_be_bytes.result fits ∙ c.from_be_bytes.ensures ∙ ap (to_z w64) (omega arith)

@@ -4,5 +4,5 @@ use Rattle.wire.proofs.I8Field.get.Goals as goal
 
 pub returns : goal.returns
 returns c =
-    let fits : SFits w8 c.cast-signed.result = search rules in
-    to_z-of_z w8 c.cast-signed.result fits ∙ c.cast-signed.ensures ∙ ap (to_z w8) c.get.ensures
+    let fits : SFits w8 c.cast_signed.result = search rules in
+    to_z-of_z w8 c.cast_signed.result fits ∙ c.cast_signed.ensures ∙ ap (to_z w8) c.get.ensures

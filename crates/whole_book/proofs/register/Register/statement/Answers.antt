@@ -5,4 +5,4 @@ use Rattle.whole_book.proofs.register.Register.statement.Goals as goal
 pub returns : goal.returns
 returns c =
     let b = c.args.self.now in
-    ap (λ (zs : List ℤ). record { number = b.number; edition = b.edition; charges = zs }) c.last-charges.ensures
+    ap (λ (zs : List ℤ). record { number = b.number; edition = b.edition; charges = zs }) c.last_charges.ensures
