@@ -51,7 +51,7 @@ impl<'a, R: Record> Book<'a, R> {
 
     /// Books a record in the next slot; answers its number, counted from 1.
     pub fn book(&mut self, item: R) -> Result<u16, BookFault>
-        ensures came { Comes (booking keyed posted self.old.shelf.slots.now self.old.register item) result self.new.shelf.slots.now self.new.register }
+        ensures came { Comes (booking R.keyed R.posted self.old.shelf.slots.now self.old.register item) result self.new.shelf.slots.now self.new.register }
         ensures lent { self.new.shelf.slots.ghost_name ≡ self.old.shelf.slots.ghost_name }
     {
         if let Some(fault) = self.booking_fault(&item) {
@@ -95,7 +95,7 @@ impl<'a, R: Record> Book<'a, R> {
 
     /// Why a booking of this record is refused, in the order of the checks.
     fn booking_fault(&self, item: &R) -> Option<BookFault>
-        ensures { result ≡ book_refusal keyed (capacity self.now.shelf.slots.now) self.now.register.used (entries self.now.shelf.slots.now self.now.register) self.now.register.state item.now }
+        ensures { result ≡ book_refusal R.keyed (capacity self.now.shelf.slots.now) self.now.register.used (entries self.now.shelf.slots.now self.now.register) self.now.register.state item.now }
     {
         let key = item.key();
         if key == 0 {

@@ -28,7 +28,7 @@ impl<'a, R: Record> Shelf<'a, R> {
     pub(crate) fn number_of(&self, used: usize, key: u32) -> Option<u16>
         requires within { used ≤ length self.now.slots.now }
         requires small { used ≤ 4096 }
-        ensures { result ≡ lookup keyed key 0 (take used self.now.slots.now) }
+        ensures { result ≡ lookup R.keyed key 0 (take used self.now.slots.now) }
     {
         find(self.slots, used, key)
     }
@@ -53,7 +53,7 @@ fn overwrite<R: Record>(slots: &mut [Slot<R>], at: usize, slot: Slot<R>)
 fn find<R: Record>(slots: &[Slot<R>], used: usize, key: u32) -> Option<u16>
     requires within { used ≤ length slots.now }
     requires small { used ≤ 4096 }
-    ensures { result ≡ lookup keyed key 0 (take used slots.now) }
+    ensures { result ≡ lookup R.keyed key 0 (take used slots.now) }
 {
     for i in 0..used {
         if answers_to(&slots[i], key) {
@@ -64,7 +64,7 @@ fn find<R: Record>(slots: &[Slot<R>], used: usize, key: u32) -> Option<u16>
 }
 
 fn answers_to<R: Record>(slot: &Slot<R>, key: u32) -> bool
-    ensures { result ≡ hits keyed key slot.now }
+    ensures { result ≡ hits R.keyed key slot.now }
 {
     is_standing(slot.state) && slot.item.has_key(key)
 }

@@ -7,5 +7,5 @@ use record::Record;
 /// Whatever calls a book has lived through, in any order, accepted or refused, with any arguments:
 /// its answers, its balances and its charges are those of the plain book after the same calls.
 pub fn history_stands<R: Record>()
-    ensures { HistoryStands keyed posted }
+    ensures { HistoryStands R.keyed R.posted }
 {}

@@ -48,7 +48,7 @@ impl Ledger {
 
     /// Makes each posting of a record.
     pub fn put<R: Record>(&mut self, item: &R)
-        ensures { self.new ≡ all_posted self.old (posted item.now) }
+        ensures { self.new ≡ all_posted self.old (R.posted item.now) }
     {
         let mut list = [Posting::NONE; 64];
         let n = item.fill(&mut list);
@@ -57,7 +57,7 @@ impl Ledger {
 
     /// Takes each posting of a record back, by its opposite.
     pub fn take_back<R: Record>(&mut self, item: &R)
-        ensures { self.new ≡ all_posted self.old (map opposite (posted item.now)) }
+        ensures { self.new ≡ all_posted self.old (map opposite (R.posted item.now)) }
     {
         let mut list = [Posting::NONE; 64];
         let count = item.fill(&mut list);

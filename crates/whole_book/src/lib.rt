@@ -64,7 +64,7 @@ impl<'a, R: Record> Book<'a, R> {
 
     /// Books a record in the next slot; answers its number, counted from 1.
     pub fn book(&mut self, item: R) -> Result<u16, BookFault>
-        ensures came { Comes (booking keyed posted self.old.shelf.slots.now self.old.register item) result self.new.shelf.slots.now self.new.register }
+        ensures came { Comes (booking R.keyed R.posted self.old.shelf.slots.now self.old.register item) result self.new.shelf.slots.now self.new.register }
         ensures lent { self.new.shelf.slots.ghost_name ≡ self.old.shelf.slots.ghost_name }
     {
         self.bookable(&item)?;
@@ -84,7 +84,7 @@ impl<'a, R: Record> Book<'a, R> {
 
     /// Replaces the record of a number by one with the same key.
     pub fn correct(&mut self, number: u16, correction: R) -> Result<(), BookFault>
-        ensures came { Comes (correcting keyed posted self.old.shelf.slots.now self.old.register number correction) result self.new.shelf.slots.now self.new.register }
+        ensures came { Comes (correcting R.keyed R.posted self.old.shelf.slots.now self.old.register number correction) result self.new.shelf.slots.now self.new.register }
         ensures lent { self.new.shelf.slots.ghost_name ≡ self.old.shelf.slots.ghost_name }
     {
         let old = self.correctable(number, &correction)?;
@@ -103,7 +103,7 @@ impl<'a, R: Record> Book<'a, R> {
 
     /// Withdraws the record of a number. Its key may then be booked under a new number.
     pub fn withdraw(&mut self, number: u16) -> Result<(), BookFault>
-        ensures came { Comes (withdrawing posted self.old.shelf.slots.now self.old.register number) result self.new.shelf.slots.now self.new.register }
+        ensures came { Comes (withdrawing R.posted self.old.shelf.slots.now self.old.register number) result self.new.shelf.slots.now self.new.register }
         ensures lent { self.new.shelf.slots.ghost_name ≡ self.old.shelf.slots.ghost_name }
     {
         let gone = self.withdrawable(number)?;
@@ -191,7 +191,7 @@ impl<'a, R: Record> Book<'a, R> {
 
     /// The number of the standing record with a key.
     pub fn lookup(&self, key: u32) -> Option<u16>
-        ensures { result ≡ lookup keyed key (entries self.now.shelf.slots.now self.now.register) }
+        ensures { result ≡ lookup R.keyed key (entries self.now.shelf.slots.now self.now.register) }
     {
         self.shelf.number_of(self.register.used, key)
     }
@@ -199,7 +199,7 @@ impl<'a, R: Record> Book<'a, R> {
     /// The number of a standing record with one posting of at least these cents to a member, if there
     /// is one.
     pub fn search(&self, member: u8, cents: i64) -> Result<Option<u16>, MemberFault>
-        ensures { Finds posted member cents (entries self.now.shelf.slots.now self.now.register) result }
+        ensures { Finds R.posted member cents (entries self.now.shelf.slots.now self.now.register) result }
     {
         if !is_member(member) {
             return Err(MemberFault::Unknown);
@@ -223,7 +223,7 @@ impl<'a, R: Record> Book<'a, R> {
 
     /// Whether a record can be booked, or the first check that fails.
     fn bookable(&self, item: &R) -> Result<(), BookFault>
-        ensures { result ≡ bookable keyed (capacity self.now.shelf.slots.now) self.now.register.used (entries self.now.shelf.slots.now self.now.register) self.now.register.state item.now }
+        ensures { result ≡ bookable R.keyed (capacity self.now.shelf.slots.now) self.now.register.used (entries self.now.shelf.slots.now self.now.register) self.now.register.state item.now }
     {
         let key = item.key();
         if key == 0 {
@@ -244,7 +244,7 @@ impl<'a, R: Record> Book<'a, R> {
 
     /// The record that a correction replaces, or the first check that fails.
     fn correctable(&self, number: u16, item: &R) -> Result<R, BookFault>
-        ensures { result ≡ correctable keyed (entries self.now.shelf.slots.now self.now.register) self.now.register.state number item.now }
+        ensures { result ≡ correctable R.keyed (entries self.now.shelf.slots.now self.now.register) self.now.register.state number item.now }
     {
         let key = item.key();
         if key == 0 {

@@ -15,7 +15,7 @@ pub(crate) fn find_posting<R: Record>(
 ) -> Option<u16>
     requires within { used ≤ length slots.now }
     requires small { used ≤ 4096 }
-    ensures { result ≡ first_where (offers posted member cents) 0 (take used slots.now) }
+    ensures { result ≡ first_where (offers R.posted member cents) 0 (take used slots.now) }
 {
     for i in 0..used {
         if offers(&slots[i], member, cents) {
@@ -26,13 +26,13 @@ pub(crate) fn find_posting<R: Record>(
 }
 
 fn offers<R: Record>(slot: &Slot<R>, member: u8, cents: i64) -> bool
-    ensures { result ≡ offers posted member cents slot.now }
+    ensures { result ≡ offers R.posted member cents slot.now }
 {
     is_standing(slot.state) && gives(&slot.item, member, cents)
 }
 
 fn gives<R: Record>(item: &R, member: u8, cents: i64) -> bool
-    ensures { result ≡ gives member cents (posted item.now) }
+    ensures { result ≡ gives member cents (R.posted item.now) }
 {
     let mut list = [Posting::NONE; 64];
     let n = item.fill(&mut list);

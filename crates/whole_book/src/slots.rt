@@ -29,7 +29,7 @@ impl<'a, R: Record> Shelf<'a, R> {
     pub(crate) fn number_of(&self, used: usize, key: u32) -> Option<u16>
         requires within { used ≤ length self.now.slots.now }
         requires small { used ≤ 4096 }
-        ensures { result ≡ lookup keyed key (take used self.now.slots.now) }
+        ensures { result ≡ lookup R.keyed key (take used self.now.slots.now) }
     {
         find(self.slots, used, key)
     }
@@ -47,7 +47,7 @@ impl<'a, R: Record> Shelf<'a, R> {
     pub(crate) fn number_giving(&self, used: usize, member: u8, cents: i64) -> Option<u16>
         requires within { used ≤ length self.now.slots.now }
         requires small { used ≤ 4096 }
-        ensures { result ≡ first_where (offers posted member cents) 0 (take used self.now.slots.now) }
+        ensures { result ≡ first_where (offers R.posted member cents) 0 (take used self.now.slots.now) }
     {
         find_posting(self.slots, used, member, cents)
     }
@@ -72,7 +72,7 @@ fn overwrite<R: Record>(slots: &mut [Slot<R>], at: usize, slot: Slot<R>)
 fn find<R: Record>(slots: &[Slot<R>], used: usize, key: u32) -> Option<u16>
     requires within { used ≤ length slots.now }
     requires small { used ≤ 4096 }
-    ensures { result ≡ lookup keyed key (take used slots.now) }
+    ensures { result ≡ lookup R.keyed key (take used slots.now) }
 {
     for i in 0..used {
         if answers_to(&slots[i], key) {
@@ -94,7 +94,7 @@ fn pick<R: Record>(slots: &[Slot<R>], used: usize, number: u16) -> Option<R>
 }
 
 fn answers_to<R: Record>(slot: &Slot<R>, key: u32) -> bool
-    ensures { result ≡ hits keyed key slot.now }
+    ensures { result ≡ hits R.keyed key slot.now }
 {
     is_standing(slot.state) && slot.item.has_key(key)
 }

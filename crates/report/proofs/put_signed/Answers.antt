@@ -6,7 +6,7 @@ use Rattle.wire.proofs.Placing.{Wrote, wrote_then}
 use Rattle.report.proofs.Long.{signed_short}
 use Rattle.report.proofs.Writing.{wrote_as}
 use Rattle.report.proofs.put_signed.Goals as goal
-use Rattle.report.proofs.put_signed.Goals.{After-unsigned-abs, then-z-lt0, else-z-lt0}
+use Rattle.report.proofs.put_signed.Goals.{After-unsigned_abs, then-z-lt0, else-z-lt0}
 
 below : (z : ℤ) → lt_z z (pos 0) ≡ true → signed_decimal z ≡ 45 ∷ decimal (nat_abs z)
 below (pos n) h = absurd (grind (arith, ints))
@@ -17,7 +17,7 @@ above (pos n) h = refl
 above (negsuc n) h = absurd (grind (arith, ints))
 
 -- What is written: the space, with the sign if there is one, and the digits.
-bytes : (c : After-unsigned-abs) → c.if-z-lt0.lead.now ++ decimal c.unsigned_abs.result ≡ 32 ∷ signed_decimal c.args.z
+bytes : (c : After-unsigned_abs) → c.if-z-lt0.lead.now ++ decimal c.unsigned_abs.result ≡ 32 ∷ signed_decimal c.args.z
 bytes c =
     let z = c.args.z in
     let m = c.unsigned_abs.result in
@@ -41,7 +41,7 @@ put_digits-requires c =
 pub returns : goal.returns
 returns c =
     let m = c.unsigned_abs.result in
-    let all = bytes (goal.at.returns c).After-unsigned-abs in
+    let all = bytes (goal.at.returns c).After-unsigned_abs in
     let short = signed_short c.args.z c.ranges.z in
     let long = simp length-append at (ap length all) in
     let front : Wrote c.args.at c.if-z-lt0.lead.now c.args.out.now c.put_text-end.new.out c.put_text-end.result =
