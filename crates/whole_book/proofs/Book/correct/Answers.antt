@@ -7,11 +7,11 @@ use Rattle.whole_book.proofs.Book.correct.Goals as goal
 pub overflow_sub-number : goal.overflow_sub-number
 overflow_sub-number g c =
     let es = entries c.args.self.now.shelf.slots.now c.args.self.now.register in
-    (number_within es c.args.number c.in-ok-old.old (corrected_stands g.R.Record.keyed es _ _ _ _ c.in-ok-old.ensures)).0
+    (number_within es c.args.number c.in_ok-old.old (corrected_stands g.R.Record.keyed es _ _ _ _ c.in_ok-old.ensures)).0
 
 pub write-requires : goal.write-requires
 write-requires g c =
     let ss = c.args.self.now.shelf.slots.now in
     let b = c.args.self.now.register in
-    let w = number_within (entries ss b) c.args.number c.in-ok-old.old (corrected_stands g.R.Record.keyed (entries ss b) _ _ _ _ c.in-ok-old.ensures) in
+    let w = number_within (entries ss b) c.args.number c.in_ok-old.old (corrected_stands g.R.Record.keyed (entries ss b) _ _ _ _ c.in_ok-old.ensures) in
     omega (arith, length-take b.used ss)
