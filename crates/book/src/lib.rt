@@ -1,5 +1,6 @@
 //! A book over lent slots, for records of any one kind.
 #![tactic(auto)]
+
 ghost use Rattle.std.specs.Prelude.{◌≡◌, ◌≤◌, min, length};
 ghost use Rattle.ledger.specs.Moves.{account_of};
 ghost use Rattle.book.specs.Rules.{book_refusal, ceiling};

@@ -4,7 +4,7 @@ use Rattle.std.proofs.Common.{sym, ap, ◌∙◌, ⊎_elim, arith, lit<, length-
 use Rattle.std.proofs.lemmas.Int.{ints}
 use borrow.Rule.Slice.PartMut.{put_mid}
 use Rattle.std.specs.Int.{w32}
-use Rattle.std.specs.List.{AllByRecursion as All}
+use Rattle.std.specs.List.{AllByRecursion}
 use Rattle.std.proofs.ByRecursion.{All-take, All-drop}
 use Rattle.std.proofs.lemmas.List.{take_all}
 use Rattle.std.proofs.lemmas.Bool.{ltb-false, le-ltb, lt-ltb, cond-true, cond-false, cases_lt}
@@ -61,8 +61,8 @@ answered xs e h = by (nat_lt (length xs) 20) refl h
         record { long = ltb-false (length xs) 20 t; faultless = ap fault_of (sym u.1) ∙ u.0; fields = u.1 }
 
 -- a field's bytes are those that stand in the record
-module _ (xs : List ℕ) (all : All Byte xs) (k n : ℕ) (h : k + n ≤ length xs) where
-  part_bytes : All Byte (part k n xs)
+module _ (xs : List ℕ) (all : AllByRecursion Byte xs) (k n : ℕ) (h : k + n ≤ length xs) where
+  part_bytes : AllByRecursion Byte (part k n xs)
   part_bytes = All-take Byte n (drop k xs) (All-drop Byte k xs all)
 
   part_long : length (part k n xs) ≡ n
@@ -71,10 +71,10 @@ module _ (xs : List ℕ) (all : All Byte xs) (k n : ℕ) (h : k + n ≤ length x
   unsigned_at : bytes n (number (part k n xs)) ≡ spread k n xs
   unsigned_at = bytes_at_width n (part k n xs) part_bytes part_long ∙ spread_is k n xs h
 
-price_at : (xs : List ℕ) → All Byte xs → (k : ℕ) → k + 4 ≤ length xs → signed_bytes w32 4 (signed_number w32 (part k 4 xs)) ≡ spread k 4 xs
+price_at : (xs : List ℕ) → AllByRecursion Byte xs → (k : ℕ) → k + 4 ≤ length xs → signed_bytes w32 4 (signed_number w32 (part k 4 xs)) ≡ spread k 4 xs
 price_at xs all k h = signed_forth w32 4 refl (part k 4 xs) (part_bytes xs all k 4 h) (part_long xs all k 4 h) ∙ spread_is k 4 xs h
 
-pub bytes_forth : (xs : List ℕ) → All Byte xs → 20 ≤ length xs → bytes_of (fields_of xs) ≡ take 20 xs
+pub bytes_forth : (xs : List ℕ) → AllByRecursion Byte xs → 20 ≤ length xs → bytes_of (fields_of xs) ≡ take 20 xs
 bytes_forth xs all h =
     let p = unsigned_at xs all 1 2 (omega arith) in
     let v = unsigned_at xs all 6 4 (omega arith) in
@@ -90,7 +90,7 @@ long_read : (xs : List ℕ) → 20 ≤ length xs → read_of xs ≡ unless (faul
 long_read xs h = cond-false (nat_lt (length xs) 20) _ _ (le-ltb (length xs) 20 h)
 
 -- every check of the fields is told as a refusal of the layer `record`
-all_of_record : (e : Exchange) → All (λ t. OfRecord 20 (told_of t.fault)) (checks e)
+all_of_record : (e : Exchange) → AllByRecursion (λ t. OfRecord 20 (told_of t.fault)) (checks e)
 all_of_record e =
     (field 0 (lit< tt), (field 1 (lit< tt), (field 4 (lit< tt), (field 5 (lit< tt), (field 6 (lit< tt), (field 10 (lit< tt), (field 14 (lit< tt), (field 18 (lit< tt), (field 19 (lit< tt), (whole 6 refl (λ n. omega arith), (whole 7 refl (λ n. omega arith), tt)))))))))))
 

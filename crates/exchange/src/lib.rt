@@ -1,5 +1,6 @@
 //! Exchanges of balancing energy over a border: a kind of record of 20 bytes.
 #![tactic(auto)]
+
 ghost use Rattle.std.specs.Prelude.{◌≡◌, ◌<◌, ◌≤◌, true, length, pos, ◌*ℤ◌};
 ghost use Rattle.amounts.specs.Floor.{Under};
 ghost use Rattle.exchange.specs.Meaning.{fault_of, four_postings, key_of, no_exchange, own_key, own_postings, passing, place_of, postings, share_of, told_of, worth};

@@ -4,11 +4,11 @@ use Rattle.std.proofs.lemmas.Int.{ints}
 use Rattle.std.proofs.ByRecursion.{All-push}
 use Rattle.std.proofs.lemmas.List.{length-append, length-map, map_push}
 use Rattle.std.proofs.lemmas.List.Sums.{fold_push}
-use Rattle.std.specs.List.{range_with_len, AllByRecursion as All}
+use Rattle.std.specs.List.{range_with_len, AllByRecursion}
 use Rattle.amounts.specs.Cut.{total}
 use Rattle.amounts.specs.Floor.{Under}
 use Rattle.record.specs.declared.Posting.{Posting}
-use Rattle.record.specs.Meaning.{total as posted-total, Fair}
+use Rattle.record.specs.Meaning.{total as posted_total, Fair}
 use Rattle.record.specs.Reading.{is_member}
 use Rattle.ledger.specs.declared.Account.{Account}
 use Rattle.ledger.specs.Moves.{account_of, charge, last_charges, ledger_of, moved, no_account, opposite}
@@ -38,7 +38,7 @@ module _ {R : Type 0} {n : ℕ} {old : R} {es : List (Entry R)} (f : Entry R →
       let was = ap (sum_of posted m) stood.is ∙ sum_append posted m stood.front (standing old ∷ stood.back) in
       omega (arith, ints)
 
-module _ {R : Type 0} (posted : R → List Posting) (nought : (r : R) → posted-total (posted r) ≡ pos 0) (few : (r : R) → length (posted r) ≤ 64) (fair : (r : R) → All Fair (posted r)) where
+module _ {R : Type 0} (posted : R → List Posting) (nought : (r : R) → posted_total (posted r) ≡ pos 0) (few : (r : R) → length (posted r) ≤ 64) (fair : (r : R) → AllByRecursion Fair (posted r)) where
   -- es are the entries, xs the accounts, ns the sums noted at the last issue, reads the last charges read after each
   pub record Kept (es : List (Entry R)) (xs : List Account) (ns : List ℤ) (reads : List (List ℤ)) : Type 0 where
     pub small : length es ≤ 4096
@@ -48,7 +48,7 @@ module _ {R : Type 0} (posted : R → List Posting) (nought : (r : R) → posted
     pub noted_under : (m : ℕ) → is_member m ≡ true → Under (4096 * (64 * 20000000000)) (of_member m ns)
     pub noted_even : total (per_member (λ m. of_member m ns)) ≡ pos 0
     pub charges : (m : ℕ) → is_member m ≡ true → total (map (of_member m) reads) ≡ of_member m ns
-    pub flat : All (λ row. total row ≡ pos 0) reads
+    pub flat : AllByRecursion (λ row. total row ≡ pos 0) reads
     pub lasts : (m : ℕ) → is_member m ≡ true → (account xs m).last ≡ of_member m (newest reads)
 
   -- a new book
@@ -74,14 +74,14 @@ module _ {R : Type 0} (posted : R → List Posting) (nought : (r : R) → posted
         omega (arith, ints)
 
     -- fair postings move each account by the member's share
-    after : (ps : List Posting) → All Fair ps → length ps ≤ 64 → (m : ℕ) → is_member m ≡ true → account (fold moved xs ps) m ≡ shifted (account xs m) (share m ps)
+    after : (ps : List Posting) → AllByRecursion Fair ps → length ps ≤ 64 → (m : ℕ) → is_member m ≡ true → account (fold moved xs ps) m ≡ shifted (account xs m) (share m ps)
     after ps fair-ps few-ps m is =
         let under = sum_small m in
         let same = h.balance m is in
         moves_at ps xs m (4096 * (64 * 20000000000)) h.long is fair-ps (omega (arith, ints)) (omega arith)
 
     -- the accounts keep the sums of other entries, where the postings make up for the change
-    posted_more : (ps : List Posting) → All Fair ps → length ps ≤ 64 → (es' : List (Entry R)) → length es' ≤ 4096 → ((m : ℕ) → sum_of posted m es +ℤ share m ps ≡ sum_of posted m es') → Kept es' (fold moved xs ps) ns reads
+    posted_more : (ps : List Posting) → AllByRecursion Fair ps → length ps ≤ 64 → (es' : List (Entry R)) → length es' ≤ 4096 → ((m : ℕ) → sum_of posted m es +ℤ share m ps ≡ sum_of posted m es') → Kept es' (fold moved xs ps) ns reads
     posted_more ps fair-ps few-ps es' small' sum = record {
       small = small';
       long = length_moves ps xs ∙ h.long;

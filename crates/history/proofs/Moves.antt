@@ -4,7 +4,7 @@ use lib.IntN.{+ℤ_assoc, +ℤ_idr}
 use Rattle.std.proofs.lemmas.Int.{ints}
 use Rattle.std.proofs.lemmas.List.{get_or-map, get_or-set_same, get_or-set_other, length-set}
 use Rattle.std.proofs.lemmas.Bool.{eq-eqb, ne_eqb, cases_eq, cond-true}
-use Rattle.std.specs.List.{AllByRecursion as All}
+use Rattle.std.specs.List.{AllByRecursion}
 use Rattle.amounts.specs.Floor.{Under}
 use Rattle.refusal.specs.declared.MemberFault.TheVariants.{Unknown}
 use Rattle.record.specs.declared.Posting.{Posting}
@@ -54,7 +54,7 @@ length_moves [] xs = refl
 length_moves (p ∷ ps) xs = length_moves ps (moved xs p) ∙ length_moved xs p
 
 -- some postings move a member's account by its share
-pub moves_at : (ps : List Posting) (xs : List Account) (m room : ℕ) → length xs ≡ 32 → is_member m ≡ true → All Fair ps → Under room (account xs m).balance → room + length ps * 20000000000 < 2 ^ 63 → account (fold moved xs ps) m ≡ shifted (account xs m) (share m ps)
+pub moves_at : (ps : List Posting) (xs : List Account) (m room : ℕ) → length xs ≡ 32 → is_member m ≡ true → AllByRecursion Fair ps → Under room (account xs m).balance → room + length ps * 20000000000 < 2 ^ 63 → account (fold moved xs ps) m ≡ shifted (account xs m) (share m ps)
 moves_at [] xs m room long is fair under fits =
     let a = account xs m in
     ap (with_balance a) (sym (+ℤ_idr a.balance))
@@ -80,7 +80,7 @@ share_opposite m (p ∷ ps) =
     let rest = share_opposite m ps in
     omega (arith, ints)
 
-pub fair_opposite : (ps : List Posting) → All Fair ps → All Fair (map opposite ps)
+pub fair_opposite : (ps : List Posting) → AllByRecursion Fair ps → AllByRecursion Fair (map opposite ps)
 fair_opposite [] fair = tt
 fair_opposite (p ∷ ps) fair =
     let here = fair.0 in (

@@ -3,7 +3,7 @@ use Rattle.std.proofs.Common.{◌≡◌, ℕ, ◌+◌, ◌≤◌, Bool, true, fa
 use Rattle.std.proofs.lemmas.List.{nil_from_length}
 use Rattle.std.proofs.lemmas.List.Sums.{sum_by-append, sum_by-cons, sum_by_push}
 use Rattle.std.proofs.lemmas.Bool.{and_parts, cases_Bool, cases_eq, cond-false, cond-true, eqb-false, eqb-true, ne_eqb, not-true, or_cases}
-use Rattle.std.specs.List.{AllByRecursion as All}
+use Rattle.std.specs.List.{AllByRecursion}
 use Rattle.refusal.specs.declared.Refusal.{Refusal}
 use Rattle.record.specs.declared.Posting.{Posting}
 use Rattle.record.specs.Reading.{Check, first_of}
@@ -97,7 +97,7 @@ module _ {R : Type 0} (keyed : R → ℕ) where
       changed = record { one = λ k. omega (arith, fewer k, sole.one k); none = omega (arith, fewer 0, sole.none) }
 
 -- all checks of a call that is not refused
-pub all_hold : (ts : List (Check Refusal)) → first_of ts ≡ None → All (λ t. t.holds ≡ true) ts
+pub all_hold : (ts : List (Check Refusal)) → first_of ts ≡ None → AllByRecursion (λ t. t.holds ≡ true) ts
 all_hold [] h = tt
 all_hold (t ∷ ts) h =
     ⊎_elim

@@ -4,12 +4,12 @@ use Rattle.std.proofs.lemmas.Int.{ints}
 use Rattle.std.proofs.lemmas.List.FromFn.{get_or-map-range_with_len}
 use Rattle.std.proofs.lemmas.List.{get_or-replicate}
 use Rattle.std.proofs.lemmas.Bool.{eq-eqb, ne_eqb, cases_eq, and_parts, and_from, le-leb, leb-true}
-use Rattle.std.specs.List.{range_with_len, AllByRecursion as All}
+use Rattle.std.specs.List.{range_with_len, AllByRecursion}
 use Rattle.std.specs.Int.{saturate_to_bits}
 use Rattle.amounts.specs.Cut.{total}
 use Rattle.amounts.specs.Floor.{Under}
 use Rattle.record.specs.declared.Posting.{Posting}
-use Rattle.record.specs.Meaning.{total as posted-total, Fair}
+use Rattle.record.specs.Meaning.{total as posted_total, Fair}
 use Rattle.record.specs.Reading.{is_member}
 use Rattle.history.specs.Plain.{Entry, of_member, per_member, share, sum_of}
 
@@ -73,7 +73,7 @@ module _ (a : ℕ) (c : ℤ) where
       (cases_eq a s)
 
 -- the members' shares of some postings are all that was posted
-shares : (ps : List Posting) → All Fair ps → total (per_member (λ m. share m ps)) ≡ posted-total ps
+shares : (ps : List Posting) → AllByRecursion Fair ps → total (per_member (λ m. share m ps)) ≡ posted_total ps
 shares [] fair = total_none (range_with_len 1 32)
 shares (p ∷ ps) fair =
     let here = fair.0 in
@@ -89,7 +89,7 @@ pub part_under : (m : ℕ) (p : Posting) → Fair p → Under 20000000000 (cond 
 part_under m p fair = under_cond (eqb p.member m) 20000000000 p.cents (fair.low, fair.high)
 
 -- and what some postings do
-share_under : (m : ℕ) (ps : List Posting) → All Fair ps → Under (length ps * 20000000000) (share m ps)
+share_under : (m : ℕ) (ps : List Posting) → AllByRecursion Fair ps → Under (length ps * 20000000000) (share m ps)
 share_under m [] fair = omega (arith, ints)
 share_under m (p ∷ ps) fair =
     let one = part_under m p fair.0 in
@@ -106,7 +106,7 @@ module _ {R : Type 0} (posted : R → List Posting) where
   sum_append m [] fs = omega (arith, ints)
   sum_append m (e ∷ es) fs = let rest = sum_append m es fs in omega (arith, ints)
 
-module _ {R : Type 0} (posted : R → List Posting) (nought : (r : R) → posted-total (posted r) ≡ pos 0) (fair : (r : R) → All Fair (posted r)) where
+module _ {R : Type 0} (posted : R → List Posting) (nought : (r : R) → posted_total (posted r) ≡ pos 0) (fair : (r : R) → AllByRecursion Fair (posted r)) where
   -- an entry moves all members by nothing in all, whether it stands or not
   entry_even : (b : Bool) (r : R) → total (per_member (λ m. cond b (share m (posted r)) (pos 0))) ≡ pos 0
   entry_even true r = shares (posted r) (fair r) ∙ nought r
@@ -119,7 +119,7 @@ module _ {R : Type 0} (posted : R → List Posting) (nought : (r : R) → posted
       total_add (λ m. cond e.stands (share m (posted e.item)) (pos 0)) (λ m. sum_of posted m es) (range_with_len 1 32)
       ∙ ap₂ ◌+ℤ◌ (entry_even e.stands e.item) (sums_even es)
 
-module _ {R : Type 0} (posted : R → List Posting) (few : (r : R) → length (posted r) ≤ 64) (fair : (r : R) → All Fair (posted r)) where
+module _ {R : Type 0} (posted : R → List Posting) (few : (r : R) → length (posted r) ≤ 64) (fair : (r : R) → AllByRecursion Fair (posted r)) where
   -- each entry moves a member by no more than 64 postings do
   pub sum_under : (m : ℕ) (es : List (Entry R)) → Under (length es * (64 * 20000000000)) (sum_of posted m es)
   sum_under m [] = omega (arith, ints)

@@ -4,10 +4,10 @@ use lib.Seq.{take-set-lt}
 use Rattle.std.proofs.lemmas.List.{append-nil, length-take-le, map_push, take_more_set}
 use Rattle.std.proofs.lemmas.List.Sums.{fold_push}
 use Rattle.std.proofs.lemmas.Bool.{ltb-true}
-use Rattle.std.specs.List.{AllByRecursion as All}
+use Rattle.std.specs.List.{AllByRecursion}
 use Rattle.refusal.specs.declared.Refusal.{Refusal}
 use Rattle.record.specs.declared.Posting.{Posting}
-use Rattle.record.specs.Meaning.{total as posted-total, Fair}
+use Rattle.record.specs.Meaning.{total as posted_total, Fair}
 use Rattle.ledger.specs.declared.Ledger.{Ledger}
 use Rattle.ledger.specs.Moves.{all_posted}
 use Rattle.whole_book.specs.declared.slots.Slot.{Slot}
@@ -32,7 +32,7 @@ use Rattle.history.proofs.Agrees.{length_shown, refused, shown}
 use Rattle.history.proofs.Keeps.{Kept, at_first, booked, charged_in_all, charged_now, evenly, held, replaced, taken_back, stated_as}
 use Rattle.history.proofs.Sole.{all_hold, keyed_all_lem, sole}
 
-module _ {R : Type 0} (keyed : R → ℕ) (posted : R → List Posting) (nought : (r : R) → posted-total (posted r) ≡ pos 0) (few : (r : R) → length (posted r) ≤ 64) (fair : (r : R) → All Fair (posted r)) where
+module _ {R : Type 0} (keyed : R → ℕ) (posted : R → List Posting) (nought : (r : R) → posted_total (posted r) ≡ pos 0) (few : (r : R) → length (posted r) ≤ 64) (fair : (r : R) → AllByRecursion Fair (posted r)) where
   -- plain book p, with room for so many slots, is what the book shows, and the accounts keep its sums
   record Tied (slots number : ℕ) (p : Plain R) (reads : List (List ℤ)) (ss : List (Slot R)) (b : Register) : Type 0 where
     ns : List ℤ

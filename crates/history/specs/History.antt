@@ -1,6 +1,6 @@
 -- What every life of a book comes to, told by the plain book.
 use Rattle.std.specs.Prelude.{◌≡◌, ℕ, ◌≤◌, true, List, [], ◌∷◌, ◌++◌, map, length, replicate, ℤ, pos, Ok, Err, fold, Result}
-use Rattle.std.specs.List.{AllByRecursion as All}
+use Rattle.std.specs.List.{AllByRecursion}
 use Rattle.refusal.specs.declared.MemberFault.{MemberFault}
 use Rattle.amounts.specs.Cut.{total}
 use Rattle.record.specs.declared.Posting.{Posting}
@@ -56,7 +56,7 @@ module _ {R : Type 0} (keyed : R → ℕ) (posted : R → List Posting) where
     -- a member's last charges, read after each issue, add up to its noted sum
     pub charges : (m : ℕ) → is_member m ≡ true → total (map (of_member m) reads) ≡ of_member m p.noted
     -- the last charges of an issue add up to zero
-    pub flat : All (λ row. total row ≡ pos 0) reads
+    pub flat : AllByRecursion (λ row. total row ≡ pos 0) reads
     -- a statement shows each member's charge of the last issue
     pub stated : (m : ℕ) → is_member m ≡ true → of_member m (last_charges b.ledger) ≡ of_member m (newest reads)
     -- the booked slots hold the records

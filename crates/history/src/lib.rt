@@ -1,5 +1,6 @@
 //! What every history of calls on a book comes to.
 #![tactic(auto)]
+
 ghost use Rattle.history.specs.History.{HistoryStands};
 
 use record::Record;

@@ -1,5 +1,6 @@
 //! The settlement file: a header, and then commands that borrow their operands from the file's bytes.
 #![tactic(auto)]
+
 ghost use Rattle.std.specs.Prelude.{◌≡◌, Some, Ok};
 ghost use Rattle.journal.specs.Header.{header_of, told_of_file};
 ghost use Rattle.journal.specs.Steps.{after_step, fails, place_of, plain, step_at, told_of_command};

@@ -1,7 +1,8 @@
 //! The accounts of the members, and what postings and statements do to them.
 #![tactic(auto)]
+
 ghost use Rattle.std.specs.Prelude.{◌≡◌, ◌≤◌, map, pos, neg_ℤ, ◌≤ℤ◌};
-ghost use Rattle.std.specs.List.{AllByRecursion as All};
+ghost use Rattle.std.specs.List.{AllByRecursion};
 ghost use Rattle.record.specs.Meaning.{Fair};
 ghost use Rattle.ledger.specs.Moves.{account_of, all_posted, charge, issued, last_charges, new_ledger, opposite, posted_to};
 
@@ -83,7 +84,7 @@ impl Ledger {
     }
 
     fn post_all(&mut self, postings: &[Posting])
-        requires { All Fair postings.now }
+        requires { AllByRecursion Fair postings.now }
         ensures { self.new ≡ all_posted self.old postings.now }
     {
         for p in postings {
@@ -92,7 +93,7 @@ impl Ledger {
     }
 
     fn unpost_all(&mut self, postings: &[Posting])
-        requires { All Fair postings.now }
+        requires { AllByRecursion Fair postings.now }
         ensures { self.new ≡ all_posted self.old (map opposite postings.now) }
     {
         for p in postings {

@@ -1,7 +1,8 @@
 //! What a kind of record means: its key, its postings and its bytes.
 #![tactic(auto)]
+
 ghost use Rattle.std.specs.Prelude.{◌≡◌, ℕ, ◌<◌, ◌≤◌, List, [], ◌++◌, length, take, drop, pos, Some, Ok, Err, Result, ◌==◌, ◌≢◌, slice_index_or};
-ghost use Rattle.std.specs.List.{AllByRecursion as All};
+ghost use Rattle.std.specs.List.{AllByRecursion};
 ghost use Rattle.refusal.specs.Told.{plain};
 ghost use Rattle.wire.specs.Bytes.{Byte};
 ghost use Rattle.record.specs.declared.Posting.{Posting};
@@ -138,7 +139,7 @@ pub trait Record: Copy {
     ghost few: { (r : Self) → length (posted r) ≤ 64 };
 
     /// Each posting is to a member, and within the limit of one amount.
-    ghost fair: { (r : Self) → All Fair (posted r) };
+    ghost fair: { (r : Self) → AllByRecursion Fair (posted r) };
 
     ghost unkeyed: { keyed empty ≡ 0 };
 
@@ -151,7 +152,7 @@ pub trait Record: Copy {
     ghost back: { (r : Self) (rest : List ℕ) → (keyed r ≢ 0) → reads (written r ++ rest) ≡ Ok r };
 
     /// What is read is written back.
-    ghost forth: { (xs : List ℕ) (r : Self) → All Byte xs → reads xs ≡ Ok r → written r ≡ take wide xs };
+    ghost forth: { (xs : List ℕ) (r : Self) → AllByRecursion Byte xs → reads xs ≡ Ok r → written r ≡ take wide xs };
 
     /// What is read is never blank.
     ghost sure: { (xs : List ℕ) (r : Self) → reads xs ≡ Ok r → keyed r ≢ 0 };

@@ -1,5 +1,6 @@
 //! Refusals as they are told: a number, the value that goes with it, and the layer that refuses.
 #![tactic(auto)]
+
 ghost use Rattle.std.specs.Prelude.{◌≡◌};
 ghost use Rattle.refusal.specs.declared.Refusal.{Refusal};
 ghost use Rattle.refusal.specs.Told.{detailed, layer_of, name_of, plain, told_of_member, told_of_page};

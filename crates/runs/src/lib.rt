@@ -1,5 +1,6 @@
 //! Directed runs of a book of exchanges, as tests.
 #![tactic(auto)]
+
 ghost use Rattle.std.specs.Prelude.{◌≡◌, Ok, Err, ◌≢◌};
 ghost use Rattle.whole_book.specs.Rules.{Fitting};
 

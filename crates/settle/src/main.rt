@@ -1,5 +1,6 @@
 //! Works off one settlement file on standard input, and prints its report.
 #![tactic(auto)]
+
 ghost use Rattle.std.specs.Prelude.{◌≡◌, ◌≤◌, length, Ok, Err};
 
 use anyhow::anyhow;

@@ -1,5 +1,6 @@
 //! The statement that a book issues, as bytes in a page.
 #![tactic(auto)]
+
 ghost use Rattle.std.specs.Prelude.{◌≡◌, length};
 ghost use Rattle.wire.specs.Bytes.{page_after};
 ghost use Rattle.statement.specs.Page.{amounts, bytes_of, writes};

@@ -1,5 +1,6 @@
 //! Executes reckoned examples, and prints each with its result.
 #![tactic(auto)]
+
 use amounts::{cut, nearest_cent};
 use book::{Book, BookFault, Slot, SlotState};
 use exchange::Exchange;

@@ -1,5 +1,6 @@
 //! A book over lent slots, for records of any one kind.
 #![tactic(auto)]
+
 ghost use Rattle.std.specs.Prelude.{◌≡◌, ◌≤◌, min, length};
 ghost use Rattle.wire.specs.Bytes.{page_after};
 ghost use Rattle.ledger.specs.Moves.{account_of};

@@ -1,5 +1,6 @@
 //! The settlement file: a header, and then commands that borrow their operands from the file's bytes.
 #![tactic(auto)]
+
 ghost use Rattle.std.specs.Prelude.{◌≡◌, ◌<◌, ◌≤◌, length, Some, Ok};
 ghost use Rattle.whole_journal.specs.Header.{header_of, told_of_file};
 ghost use Rattle.whole_journal.specs.Steps.{Reads, after_step, end_of, fails, place_of, plain, step_at, told_of_command};

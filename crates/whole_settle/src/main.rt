@@ -1,5 +1,6 @@
 //! Works off one settlement file on standard input, and prints its report.
 #![tactic(auto)]
+
 ghost use Rattle.std.specs.Prelude.{◌≡◌, ◌≤◌, length, Some, None, Ok, Err};
 ghost use Rattle.whole_settle.specs.Held.{Held, left_by};
 

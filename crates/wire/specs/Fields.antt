@@ -5,7 +5,7 @@ use Rattle.std.proofs.Math.Nat.{one-le-pow, pow-succ', add-mul-div_right, add-mu
 use Rattle.std.proofs.Math.Arith.{mod-mul, digits_lt, digits_div}
 use Rattle.std.specs.Int.{Width}
 use mir.Val.{to_z, of_z, bits}
-use Rattle.std.specs.List.{AllByRecursion as All}
+use Rattle.std.specs.List.{AllByRecursion}
 use Rattle.std.proofs.lemmas.List.{take_all}
 use Rattle.std.proofs.lemmas.Int.{to_z-of_z, of_z-to_z}
 use Rattle.wire.specs.Bytes.{Byte, bytes, number, signed_bytes, signed_number}
@@ -29,7 +29,7 @@ number_bytes (suc n) v =
 pub number_back : (n v : ℕ) → v < 256 ^ n → number (bytes n v) ≡ v
 number_back n v h = number_bytes n v ∙ mod-eq_of_lt h
 
-pub number_below : (bs : List ℕ) → All Byte bs → number bs < 256 ^ length bs
+pub number_below : (bs : List ℕ) → AllByRecursion Byte bs → number bs < 256 ^ length bs
 number_below [] all = omega arith
 number_below (b ∷ bs) all =
     let l = digits_lt all.0 (number_below bs all.1) in
@@ -45,7 +45,7 @@ low_bytes (suc n) q m =
     ap (bytes (suc n)) up ∙ ap (λ b. b ∷ bytes n (m + q * 256 * 256 ^ n)) top ∙ ap (λ l. (m / 256 ^ n % 256) ∷ l) (low_bytes n (q * 256) m)
 
 -- bytes are the bytes of their number
-pub bytes_forth : (bs : List ℕ) → All Byte bs → bytes (length bs) (number bs) ≡ bs
+pub bytes_forth : (bs : List ℕ) → AllByRecursion Byte bs → bytes (length bs) (number bs) ≡ bs
 bytes_forth [] all = refl
 bytes_forth (b ∷ bs) all =
     let n = length bs in
@@ -54,7 +54,7 @@ bytes_forth (b ∷ bs) all =
     ap (λ k. k ∷ bytes n (b * 256 ^ n + number bs)) top ∙ ap (λ l. b ∷ l) low
 
 -- the same at a stated width
-pub bytes_at_width : (n : ℕ) (bs : List ℕ) → All Byte bs → length bs ≡ n → bytes n (number bs) ≡ bs
+pub bytes_at_width : (n : ℕ) (bs : List ℕ) → AllByRecursion Byte bs → length bs ≡ n → bytes n (number bs) ≡ bs
 bytes_at_width n bs all e = ap (λ k. bytes k (number bs)) (sym e) ∙ bytes_forth bs all
 
 -- signed numbers: the width w has n bytes
@@ -62,7 +62,7 @@ module _ (w : Width) (n : ℕ) (whole : 2 ^ bits w ≡ 256 ^ n) where
   pub signed_back : (z : ℤ) → of_z w z < 2 ^ bits w → FitsSigned w z → signed_number w (signed_bytes w n z) ≡ z
   signed_back z h f = ap (to_z w) (number_back n (of_z w z) (omega arith)) ∙ to_z-of_z w z f
 
-  pub signed_forth : (bs : List ℕ) → All Byte bs → length bs ≡ n → signed_bytes w n (signed_number w bs) ≡ bs
+  pub signed_forth : (bs : List ℕ) → AllByRecursion Byte bs → length bs ≡ n → signed_bytes w n (signed_number w bs) ≡ bs
   signed_forth bs all e =
       let small = number_below bs all in
       let same = ap (λ k. 256 ^ k) e in

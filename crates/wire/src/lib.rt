@@ -1,8 +1,9 @@
 //! Numbers in big-endian bytes: read from a part of a slice, written into a lent part of a page.
 #![tactic(auto)]
+
 ghost use Rattle.std.specs.Prelude.{◌≡◌, ℕ, ◌^◌, ◌<◌, List, length, ℤ, FitsSigned, refl};
 ghost use Rattle.std.specs.Int.{w8, w16, w32, w64};
-ghost use Rattle.std.specs.List.{AllByRecursion as All};
+ghost use Rattle.std.specs.List.{AllByRecursion};
 ghost use Rattle.wire.specs.Bytes.{Byte, bytes, number, signed_bytes, signed_number};
 ghost use Rattle.wire.specs.Fields.{number_back, bytes_at_width, signed_back, signed_forth};
 ghost use Rattle.std.proofs.Common.{rules, arith};
@@ -33,7 +34,7 @@ pub trait Field: Copy {
 
     ghost back: { (v : Self) → held v → decoded (encoded v) ≡ v };
 
-    ghost forth: { (bs : List ℕ) → All Byte bs → length bs ≡ wide → encoded (decoded bs) ≡ bs };
+    ghost forth: { (bs : List ℕ) → AllByRecursion Byte bs → length bs ≡ wide → encoded (decoded bs) ≡ bs };
 }
 
 impl Field for u8 {

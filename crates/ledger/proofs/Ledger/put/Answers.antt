@@ -1,5 +1,5 @@
 use Rattle.std.proofs.Common.{sym, ap, ◌∙◌, subst}
-use Rattle.std.specs.List.{AllByRecursion as All}
+use Rattle.std.specs.List.{AllByRecursion}
 use Rattle.record.specs.Meaning.{Fair}
 use Rattle.ledger.specs.Moves.{all_posted}
 use Rattle.ledger.proofs.Fronts.{front}
@@ -7,7 +7,7 @@ use Rattle.ledger.proofs.Ledger.put.Goals as goal
 
 pub post_all-requires : goal.post_all-requires
 post_all-requires g c =
-    subst (All Fair) (sym (front _ _ _ _ c.fill-n.ensures.count c.fill-n.ensures.after)) (g.met.R.Record.fair _)
+    subst (AllByRecursion Fair) (sym (front _ _ _ _ c.fill-n.ensures.count c.fill-n.ensures.after)) (g.met.R.Record.fair _)
 
 pub returns : goal.returns
 returns g c =

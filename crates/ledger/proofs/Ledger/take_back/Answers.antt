@@ -1,5 +1,5 @@
 use Rattle.std.proofs.Common.{map, sym, ap, ◌∙◌, subst}
-use Rattle.std.specs.List.{AllByRecursion as All}
+use Rattle.std.specs.List.{AllByRecursion}
 use Rattle.record.specs.Meaning.{Fair}
 use Rattle.ledger.specs.Moves.{all_posted, opposite}
 use Rattle.ledger.proofs.Fronts.{front}
@@ -7,7 +7,7 @@ use Rattle.ledger.proofs.Ledger.take_back.Goals as goal
 
 pub unpost_all-requires : goal.unpost_all-requires
 unpost_all-requires g c =
-    subst (All Fair) (sym (front _ _ _ _ c.fill-count.ensures.count c.fill-count.ensures.after)) (g.met.R.Record.fair _)
+    subst (AllByRecursion Fair) (sym (front _ _ _ _ c.fill-count.ensures.count c.fill-count.ensures.after)) (g.met.R.Record.fair _)
 
 pub returns : goal.returns
 returns g c =
