@@ -1,5 +1,5 @@
 -- What every life of a book comes to, told by the plain book.
-use Rattle.std.specs.Prelude.{◌≡◌, ℕ, ◌≤◌, true, List, [], ◌∷◌, ◌++◌, map, length, replicate, ℤ, pos, Ok, Err, fold, Result}
+use Rattle.std.specs.Prelude.{◌≡◌, ℕ, ◌≤◌, true, List, [], ◌∷◌, map, length, replicate, ℤ, pos, Ok, Err, fold, Result}
 use Rattle.std.specs.List.{AllByRecursion}
 use Rattle.refusal.specs.declared.MemberFault.{MemberFault}
 use Rattle.amounts.specs.Cut.{total}

@@ -5,7 +5,6 @@ use Rattle.record.specs.declared.Posting.{Posting}
 use Rattle.ledger.specs.declared.Account.{Account}
 use Rattle.ledger.specs.Moves.{account_of}
 use Rattle.whole_book.specs.declared.slots.Slot.{Slot}
-use Rattle.whole_book.specs.declared.permit.Permit.{Permit}
 use Rattle.whole_book.specs.declared.permit.Unspent.{Unspent}
 use Rattle.whole_book.specs.declared.register.Register.{Register}
 use Rattle.whole_book.specs.declared.register.BookFault.{BookFault}

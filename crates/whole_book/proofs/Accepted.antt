@@ -1,5 +1,5 @@
 -- What is known of the record that a call is granted.
-use Rattle.std.proofs.Common.{◌≡◌, ℕ, ◌≤◌, Bool, true, false, not, eqb, List, length, Some, None, Ok, Err, Option, Result, sym, refl, ap, ◌∙◌, arith}
+use Rattle.std.proofs.Common.{◌≡◌, ℕ, Bool, true, false, not, eqb, List, Some, None, Ok, Option, Result, refl, ap, arith}
 use Rattle.whole_book.specs.declared.slots.Slot.{Slot}
 use Rattle.whole_book.specs.declared.register.BookState.{BookState}
 use Rattle.whole_book.specs.declared.register.BookFault.{BookFault}

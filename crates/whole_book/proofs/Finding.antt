@@ -1,5 +1,5 @@
 -- The first slot with a posting, as a search may answer it.
-use Rattle.std.proofs.Common.{◌≡◌, ℕ, suc, ◌+◌, ◌-◌, ◌<◌, Bool, true, false, cond, ◌&&◌, eqb, List, [], ◌∷◌, ℤ, Some, None, Ok, Option, sym, refl, ap, ◌∙◌, arith}
+use Rattle.std.proofs.Common.{◌≡◌, ℕ, ◌+◌, ◌-◌, ◌<◌, Bool, true, false, cond, ◌&&◌, eqb, List, [], ◌∷◌, ℤ, Some, None, Ok, Option, sym, refl, ap, ◌∙◌, arith}
 use Rattle.record.specs.declared.Posting.{Posting}
 use Rattle.record.specs.Reading.{is_member}
 use Rattle.whole_book.specs.declared.slots.Slot.{Slot}

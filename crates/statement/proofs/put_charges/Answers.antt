@@ -1,9 +1,8 @@
-use Rattle.std.proofs.Common.{◌≡◌, ◌+◌, ◌-◌, ◌*◌, ◌≤◌, ◌++◌, length, get_or, take, pos, sym, ap, ◌∙◌, arith, w64, SFits, rules}
+use Rattle.std.proofs.Common.{◌≡◌, ◌+◌, ◌-◌, ◌*◌, ◌++◌, length, get_or, take, pos, ap, ◌∙◌, arith, w64, SFits, rules}
 use borrow.Rule.Slice.PartMut.{put_mid}
 use Rattle.std.proofs.lemmas.Int.{to_z-of_z}
 use Rattle.std.proofs.lemmas.List.{take_all, drop_all, append-nil}
 use Rattle.wire.specs.Bytes.{placed, signed_bytes}
-use Rattle.wire.proofs.Placing.{placed_none}
 use Rattle.statement.specs.Page.{amounts}
 use Rattle.statement.proofs.Laying.{length_amounts, amounts_more}
 use Rattle.statement.proofs.put_charges.Goals as goal

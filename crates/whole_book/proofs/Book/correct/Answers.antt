@@ -1,4 +1,4 @@
-use Rattle.std.proofs.Common.{◌-◌, ◌<◌, length, arith, length-take}
+use Rattle.std.proofs.Common.{arith, length-take}
 use Rattle.whole_book.specs.Steps.{entries}
 use Rattle.whole_book.proofs.Accepted.{corrected_stands}
 use Rattle.whole_book.proofs.Numbers.{number_within}

@@ -1,4 +1,4 @@
-use Rattle.std.proofs.Common.{◌≡◌, ap, ◌∙◌, rules}
+use Rattle.std.proofs.Common.{ap, ◌∙◌, rules}
 use Rattle.wire.specs.Bytes.{placed}
 use Rattle.statement.specs.Page.{bytes_of}
 use Rattle.whole_book.proofs.Book.write_statement.Goals as goal

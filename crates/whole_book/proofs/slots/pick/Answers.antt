@@ -1,4 +1,4 @@
-use Rattle.std.proofs.Common.{◌⊎◌, sym, ap, ◌∙◌, arith}
+use Rattle.std.proofs.Common.{sym, ◌∙◌, arith}
 use Rattle.whole_book.proofs.Numbers.{none_outside, read_at}
 use Rattle.whole_book.proofs.slots.pick.Goals as goal
 

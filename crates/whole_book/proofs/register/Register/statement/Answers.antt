@@ -1,5 +1,4 @@
 use Rattle.std.proofs.Common.{List, ℤ, ap}
-use Rattle.statement.specs.declared.Statement.{Statement}
 use Rattle.whole_book.proofs.register.Register.statement.Goals as goal
 
 pub returns : goal.returns
