@@ -228,17 +228,18 @@ fn put_accounts<R: Record>(book: &Book<R>, page: &mut [u8], at: usize) -> Result
 mod tests {
     use super::{INPUT, PAGE, read_up_to, settle};
     use std::io::Cursor;
+    use std::process::Abort;
     use std::test::*;
 
     // Checks the report of a file, and that the page after it stays as it was.
-    fn reports(file: &[u8], expected: &[u8]) -> Result<(), Fail> {
+    fn reports(rt: &impl Abort, file: &[u8], expected: &[u8]) -> Result<(), Fail> {
         let mut page = [7; 80];
         match settle(file, &mut page) {
             Err(_) => Err(Fail::new("the page is too short")),
             Ok(end) => {
-                assert!(&page[0..end] == expected);
+                assert!(rt; &page[0..end] == expected);
                 for byte in &page[end..] {
-                    assert_eq!(*byte, 7);
+                    assert_eq!(rt; *byte, 7);
                 }
                 Ok(())
             }
@@ -246,21 +247,21 @@ mod tests {
     }
 
     #[test]
-    fn files_of_a_wrong_length() -> Result<(), Fail> {
-        reports(b"", b"R 0 file 1\n")?;
-        reports(&[1, 0, 0, 0], b"R 0 file 1\n")?;
-        reports(&[9; 32769], b"R 0 file 1\n")
+    fn files_of_a_wrong_length(rt: HostRuntime) -> Result<(), Fail> {
+        reports(&rt, b"", b"R 0 file 1\n")?;
+        reports(&rt, &[1, 0, 0, 0], b"R 0 file 1\n")?;
+        reports(&rt, &[9; 32769], b"R 0 file 1\n")
     }
 
     #[test]
-    fn unknown_kinds() -> Result<(), Fail> {
-        reports(&[0, 0, 0, 0, 7], b"R 0 file 2\n")?;
-        reports(&[9; 32768], b"R 0 file 2\n")
+    fn unknown_kinds(rt: HostRuntime) -> Result<(), Fail> {
+        reports(&rt, &[0, 0, 0, 0, 7], b"R 0 file 2\n")?;
+        reports(&rt, &[9; 32768], b"R 0 file 2\n")
     }
 
     #[test]
-    fn files_without_commands() -> Result<(), Fail> {
-        reports(&[1, 0, 0, 0, 7], b"")
+    fn files_without_commands(rt: HostRuntime) -> Result<(), Fail> {
+        reports(&rt, &[1, 0, 0, 0, 7], b"")
     }
 
     // A file of exchanges for book 7, under construction.
@@ -298,11 +299,11 @@ mod tests {
             ]);
         }
 
-        fn reports(&self, expected: &[u8]) -> Result<(), Fail> {
+        fn reports(&self, rt: &impl Abort, expected: &[u8]) -> Result<(), Fail> {
             if self.len > 2100 {
                 return Err(Fail::new("the draft is too long"));
             }
-            reports(&self.bytes[0..self.len], expected)
+            reports(rt, &self.bytes[0..self.len], expected)
         }
     }
 
@@ -318,71 +319,80 @@ mod tests {
     }
 
     #[test]
-    fn open_books_show_their_balances() -> Result<(), Fail> {
+    fn open_books_show_their_balances(rt: HostRuntime) -> Result<(), Fail> {
         let mut draft = Draft::new();
         draft.add(&[0x10]);
         draft.add_exchange(1, 32, 4000);
-        draft.reports(b"B 1 -61731 0\nB 32 61731 0\n")
+        draft.reports(&rt, b"B 1 -61731 0\nB 32 61731 0\n")
     }
 
     #[test]
-    fn the_65th_booking_finds_no_slot() -> Result<(), Fail> {
+    fn the_65th_booking_finds_no_slot(rt: HostRuntime) -> Result<(), Fail> {
         let mut draft = Draft::new();
         for i in 1..66u8 {
             draft.add(&[0x10]);
             draft.add_exchange(i, 2, 4000);
         }
-        draft.reports(b"R 1349 book 22\nB 1 -3950784 0\nB 2 3950784 0\n")
+        draft.reports(&rt, b"R 1349 book 22\nB 1 -3950784 0\nB 2 3950784 0\n")
     }
 
     #[test]
-    fn a_book_left_reopened_is_reissued() -> Result<(), Fail> {
+    fn a_book_left_reopened_is_reissued(rt: HostRuntime) -> Result<(), Fail> {
         let mut draft = two_booked();
         draft.add(&[0x14, 0x12, 0, 2]);
-        draft.reports(b"B 1 -61731 -61731\nB 2 61731 61731\n")
+        draft.reports(&rt, b"B 1 -61731 -61731\nB 2 61731 61731\n")
     }
 
     #[test]
-    fn a_book_left_reopened_is_reissued_after_a_fault() -> Result<(), Fail> {
+    fn a_book_left_reopened_is_reissued_after_a_fault(rt: HostRuntime) -> Result<(), Fail> {
         let mut draft = two_booked();
         draft.add(&[0x14, 0x12, 0, 1, 0x12, 0]);
-        draft.reports(b"R 52 file 4\nB 1 -61731 -61731\nB 3 61731 61731\n")
+        draft.reports(&rt, b"R 52 file 4\nB 1 -61731 -61731\nB 3 61731 61731\n")
     }
 
     #[test]
-    fn the_record_of_the_number_is_corrected() -> Result<(), Fail> {
+    fn the_record_of_the_number_is_corrected(rt: HostRuntime) -> Result<(), Fail> {
         let mut draft = two_booked();
         draft.add(&[0x14, 0x11, 0, 2]);
         draft.add_exchange(2, 3, 6001);
         draft.add(&[0x11, 0, 1]);
         draft.add_exchange(2, 3, 6001);
         draft.add(&[0x15]);
-        draft.reports(b"R 72 book 25\nB 1 -135813 -135813\nB 2 61731 61731\nB 3 74082 74082\n")
+        draft.reports(
+            &rt,
+            b"R 72 book 25\nB 1 -135813 -135813\nB 2 61731 61731\nB 3 74082 74082\n",
+        )
     }
 
     #[test]
-    fn a_changed_book_is_reissued_and_not_abandoned() -> Result<(), Fail> {
+    fn a_changed_book_is_reissued_and_not_abandoned(rt: HostRuntime) -> Result<(), Fail> {
         let mut draft = two_booked();
         draft.add(&[0x14, 0x12, 0, 2, 0x16, 0x15, 0x15]);
-        draft.reports(b"R 52 book 28\nR 54 book 21\nB 1 -61731 -61731\nB 2 61731 61731\n")
+        draft.reports(
+            &rt,
+            b"R 52 book 28\nR 54 book 21\nB 1 -61731 -61731\nB 2 61731 61731\n",
+        )
     }
 
     #[test]
-    fn no_permit_is_held() -> Result<(), Fail> {
+    fn no_permit_is_held(rt: HostRuntime) -> Result<(), Fail> {
         let mut draft = Draft::new();
         draft.add(&[0x15, 0x16, 0x13, 0x15, 0x16, 0x14, 0x16, 0x16]);
-        draft.reports(b"R 5 book 21\nR 6 book 21\nR 8 book 21\nR 9 book 21\nR 12 book 21\n")
+        draft.reports(
+            &rt,
+            b"R 5 book 21\nR 6 book 21\nR 8 book 21\nR 9 book 21\nR 12 book 21\n",
+        )
     }
 
     #[test]
-    fn edition_1000_is_the_last() -> Result<(), Fail> {
+    fn edition_1000_is_the_last(rt: HostRuntime) -> Result<(), Fail> {
         let mut draft = Draft::new();
         draft.add(&[0x13, 0x14, 0x16]);
         for _ in 1..1000u16 {
             draft.add(&[0x14, 0x15]);
         }
         draft.add(&[0x14]);
-        draft.reports(b"R 2006 book 26\n")
+        draft.reports(&rt, b"R 2006 book 26\n")
     }
 
     #[test]
@@ -409,20 +419,21 @@ mod tests {
         let mut input = [0; INPUT];
         let n = read_up_to(&mut Cursor::new(&[1; 40000]), &mut input)?;
         assert!(rt; n == INPUT);
-        reports(&input[0..n], b"R 0 file 1\n")?;
-        reports(&input[0..n - 1], b"R 5 file 3\n")
+        reports(&rt, &input[0..n], b"R 0 file 1\n")?;
+        reports(&rt, &input[0..n - 1], b"R 5 file 3\n")
     }
 
     #[test]
-    fn unknown_commands_end_the_file() -> Result<(), Fail> {
-        reports(&[1, 0, 0, 0, 7, 0x13, 0x17, 0x13], b"R 6 file 3\n")?;
-        reports(&[1; 32768], b"R 5 file 3\n")
+    fn unknown_commands_end_the_file(rt: HostRuntime) -> Result<(), Fail> {
+        reports(&rt, &[1, 0, 0, 0, 7, 0x13, 0x17, 0x13], b"R 6 file 3\n")?;
+        reports(&rt, &[1; 32768], b"R 5 file 3\n")
     }
 
     #[test]
-    fn records_cut_off() -> Result<(), Fail> {
-        reports(&[1, 0, 0, 0, 7, 0x10], b"R 5 file 4\n")?;
+    fn records_cut_off(rt: HostRuntime) -> Result<(), Fail> {
+        reports(&rt, &[1, 0, 0, 0, 7, 0x10], b"R 5 file 4\n")?;
         reports(
+            &rt,
             &[
                 0x01, 0, 0, 0, 7, 0x10, 3, 0, 1, 5, 1, 2, 0, 0, 48, 57, 0, 0, 23, 113, 0, 0, 15,
                 160, 50,
