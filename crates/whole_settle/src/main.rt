@@ -160,6 +160,7 @@ fn work<R: Record>(
         },
     }
 }
+
 /// Why a call was refused, if it was.
 fn refusal_of<A: Copy>(answer: Result<A, BookFault>) -> Option<Refusal> {
     match answer {
