@@ -3,7 +3,7 @@ use Rattle.std.proofs.Common.{◌≡◌, ℕ, zero, suc, ◌+◌, ◌<◌, ◌�
 use native.Mathlib.Nat.{zero-div}
 use lib.IntN.{+ℤ_assoc, +ℤ_idl, +ℤ_idr}
 use borrow.Author.Differences.{ints}
-use Rattle.std.proofs.lemmas.List.{take_more_set, drop_more, take_all, drop_all, append-nil}
+use Rattle.std.proofs.lemmas.List.{take_more_set, drop_more, drop-set-lt}
 use Rattle.amounts.specs.Floor.{floor_div, ceil_div}
 use Rattle.amounts.specs.Cut.{total, cutting_from, cutting}
 use Rattle.amounts.specs.Laws.{AddsUp, LiesBetween, KeepsBounds, AsMany}
@@ -48,20 +48,12 @@ many_from d s (x ∷ xs) = ap suc (many_from d (s +ℤ x) xs)
 pub as_many : AsMany
 as_many d xs = many_from d (pos 0) xs
 
--- one turn of a loop that fills in the parts
-pub cut_more : (d : ℕ) (s : ℤ) (xs parts : List ℤ) (i : ℕ) (t v : ℤ) → i < length xs → i < length parts → t ≡ s +ℤ get_or xs i (pos 0) → v ≡ floor_div t d -ℤ floor_div s d → take i parts ++ cutting_from d s (drop i xs) ≡ cutting d xs → take (i + 1) (set parts i v) ++ cutting_from d t (drop (i + 1) xs) ≡ cutting d xs
-cut_more d s xs parts i t v lx lp te ve inv =
-    let a = take_more_set parts i v lp in
-    let b = ap (cutting_from d s) (drop_more xs i (pos 0) lx) in
+-- one turn of a loop that turns each amount in xs into its part
+pub cut_more : (d : ℕ) (s : ℤ) (whole xs : List ℤ) (i : ℕ) (t v : ℤ) → i < length xs → t ≡ s +ℤ get_or xs i (pos 0) → v ≡ floor_div t d -ℤ floor_div s d → take i xs ++ cutting_from d s (drop i xs) ≡ whole → take (i + 1) (set xs i v) ++ cutting_from d t (drop (i + 1) (set xs i v)) ≡ whole
+cut_more d s whole xs i t v l te ve inv =
+    let a = take_more_set xs i v l in
+    let b = ap (cutting_from d s) (drop_more xs i (pos 0) l) in
     let e : floor_div (s +ℤ get_or xs i (pos 0)) d -ℤ floor_div s d ≡ v = ap (λ z. floor_div z d -ℤ floor_div s d) (sym te) ∙ sym ve in
-    let f : cutting_from d (s +ℤ get_or xs i (pos 0)) (drop (i + 1) xs) ≡ cutting_from d t (drop (i + 1) xs) = ap (λ z. cutting_from d z (drop (i + 1) xs)) (sym te) in
-    let g = append_assoc (take i parts) (v ∷ []) (cutting_from d t (drop (i + 1) xs)) in
-    cc
-
--- its end
-pub cut_all : (d : ℕ) (s : ℤ) (xs parts : List ℤ) (i : ℕ) → length xs ≤ i → length parts ≤ i → take i parts ++ cutting_from d s (drop i xs) ≡ cutting d xs → parts ≡ cutting d xs
-cut_all d s xs parts i lx lp inv =
-    let a = take_all i parts lp in
-    let b = ap (cutting_from d s) (drop_all i xs lx) in
-    let g = append-nil parts in
+    let f : cutting_from d (s +ℤ get_or xs i (pos 0)) (drop (i + 1) xs) ≡ cutting_from d t (drop (i + 1) (set xs i v)) = ap (λ z. cutting_from d z (drop (i + 1) xs)) (sym te) ∙ ap (cutting_from d t) (sym (drop-set-lt (i + 1) xs i v (omega arith))) in
+    let g = append_assoc (take i xs) (v ∷ []) (cutting_from d t (drop (i + 1) (set xs i v))) in
     cc

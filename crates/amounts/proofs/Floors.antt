@@ -1,8 +1,10 @@
 -- Division that rounds down.
-use Rattle.std.proofs.Common.{◌≡◌, ℕ, suc, ◌+◌, ◌-◌, ◌*◌, ◌^◌, ◌<◌, ◌≤◌, ℤ, pos, negsuc, ◌+ℤ◌, ◌-ℤ◌, ◌*ℤ◌, neg_ℤ, ◌≤ℤ◌, ◌<ℤ◌, ap, mul-le-mul_right, mod-lt, div-add-mod', arith, w64, SFits}
+use Rattle.std.proofs.Common.{◌≡◌, ℕ, ◌+◌, ◌-◌, ◌*◌, ◌^◌, ◌<◌, ◌≤◌, ℤ, pos, negsuc, ◌+ℤ◌, ◌-ℤ◌, ◌*ℤ◌, neg_ℤ, ◌≤ℤ◌, ◌<ℤ◌, ap, mul-le-mul_right, mod-lt, div-add-mod', arith, w64, SFits}
+use Rattle.std.specs.Int.{int_div_euclid}
 use borrow.Author.Differences.{up, down, ints}
 use Rattle.std.proofs.lemmas.Nat.{mul-le}
-use Rattle.std.proofs.lemmas.Int.{by_lt_z}
+use Rattle.std.specs.Prelude.{unsigned_abs}
+use Rattle.std.proofs.lemmas.Int.{by_lt_z, unsigned_abs-mul}
 use Rattle.amounts.specs.Floor.{floor_div, ceil_div, nearest, Under}
 use Rattle.amounts.specs.Laws.{RoundsDown, RoundsToNearest}
 
@@ -10,6 +12,11 @@ use Rattle.amounts.specs.Laws.{RoundsDown, RoundsToNearest}
 pub floor_is : (x : ℤ) (d : ℕ) → 0 < d → (up (floor_div x d) * d + down x ≤ up x + down (floor_div x d) * d) × (up x + down (floor_div x d) * d < up (floor_div x d) * d + d + down x)
 floor_is (pos a) d h = omega (arith, div-add-mod' a d, mod-lt a h)
 floor_is (negsuc a) d h = omega (arith, div-add-mod' a d, mod-lt a h)
+
+-- the library's quotient by a number y that is d
+pub euclid_is : (x y : ℤ) (d : ℕ) → y ≡ pos d → int_div_euclid x y ≡ floor_div x d
+euclid_is (pos a) y d e = ap (int_div_euclid (pos a)) e
+euclid_is (negsuc a) y d e = ap (int_div_euclid (negsuc a)) e
 
 -- p * d < k * d + d gives p ≤ k
 pub below_whole : (p k : ℤ) (d : ℕ) → (p *ℤ pos d) <ℤ (k *ℤ pos d +ℤ pos d) → p ≤ℤ k
@@ -64,10 +71,10 @@ gain_fits s x t r b d er eb te h f =
 
 -- a product of two numbers with bounds
 pub times_under : (x y : ℤ) (a b : ℕ) → Under a x → Under b y → Under (a * b) (x *ℤ y)
-times_under (pos m) (pos n) a b h k = let l = mul-le m n a b (omega (arith, ints)) (omega (arith, ints)) in omega (arith, ints)
-times_under (pos m) (negsuc n) a b h k = let l = mul-le m (suc n) a b (omega (arith, ints)) (omega (arith, ints)) in omega (arith, ints)
-times_under (negsuc m) (pos n) a b h k = let l = mul-le (suc m) n a b (omega (arith, ints)) (omega (arith, ints)) in omega (arith, ints)
-times_under (negsuc m) (negsuc n) a b h k = let l = mul-le (suc m) (suc n) a b (omega (arith, ints)) (omega (arith, ints)) in omega (arith, ints)
+times_under x y a b h k =
+    let l = mul-le (unsigned_abs x) (unsigned_abs y) a b (omega (arith, ints)) (omega (arith, ints)) in
+    let e = unsigned_abs-mul x y in
+    omega (arith, ints)
 
 -- the nearest cent of a number with a bound
 pub nearest_under : (v : ℤ) (b : ℕ) → Under (1000 * b) v → Under b (nearest v)

@@ -11,7 +11,7 @@ pub fn round_down(x: i64, divisor: u32) -> i64
     requires { 0 < divisor }
     ensures { result ≡ floor_div x divisor }
 {
-    x.div_euclid(divisor as i64)
+    x.div_euclid(i64::from(divisor))
 }
 
 /// The nearest cent of `v` thousandths of a cent, an exact half going up.
@@ -33,12 +33,14 @@ pub fn cut(amounts: &[i64], divisor: u32, parts: &mut [i64])
     requires same { length parts.old ≡ length amounts.now }
     ensures { parts.new ≡ cutting divisor amounts.now }
 {
+    // The parts begin as the amounts: after a zip with parts.iter_mut() a proof knows no part's value.
+    parts.copy_from_slice(amounts);
     let mut sum: i128 = 0;
     let mut before: i128 = 0;
-    for (i, amount) in amounts.iter().enumerate() {
-        sum += *amount as i128;
-        let figure = floor(sum, divisor);
-        parts[i] = (figure - before) as i64;
+    for part in parts.iter_mut() {
+        sum += i128::from(*part);
+        let figure = sum.div_euclid(i128::from(divisor));
+        *part = (figure - before) as i64;
         before = figure;
     }
 }
@@ -52,11 +54,3 @@ pub fn rounding_stands()
     ensures bounds { KeepsBounds }
     ensures many { AsMany }
 {}
-
-/// `x / divisor`, rounded down, for a sum that may need more than 64 bits.
-fn floor(x: i128, divisor: u32) -> i128
-    requires { 0 < divisor }
-    ensures { result ≡ floor_div x divisor }
-{
-    x.div_euclid(divisor as i128)
-}

@@ -1,10 +1,12 @@
 -- The bytes of an exchange, written and read back, and read and written back.
-use Rattle.std.specs.Prelude.{◌≡◌, ℕ, ◌+◌, ◌<◌, ◌≤◌, Bool, true, false, cond, List, ◌++◌, length, take, drop, ℤ, Some, None, Ok, Err, Option, nat_lt, slice_set, refl}
+use Rattle.std.specs.Prelude.{◌≡◌, ℕ, ◌+◌, ◌<◌, ◌≤◌, Bool, true, false, cond, List, ◌++◌, length, take, drop, ℤ, Some, None, Ok, Err, nat_lt, slice_set, refl}
 use Rattle.std.proofs.Common.{sym, ap, ◌∙◌, ⊎_elim, arith, lit<, length-take, length-drop}
 use Rattle.std.proofs.lemmas.Int.{ints}
 use borrow.Rule.Slice.PartMut.{put_mid}
 use Rattle.std.specs.Int.{w32}
 use Rattle.std.specs.List.{AllByRecursion}
+use Rattle.std.specs.Result.{result_ok}
+use Rattle.std.proofs.lemmas.Option.{none-some}
 use Rattle.std.proofs.ByRecursion.{All-take, All-drop}
 use Rattle.std.proofs.lemmas.List.{take_all}
 use Rattle.std.proofs.lemmas.Bool.{ltb-false, le-ltb, lt-ltb, cond-true, cond-false, cases_lt}
@@ -55,7 +57,7 @@ pub answered : (xs : List ℕ) (e : Exchange) → read_of xs ≡ Ok e → Answer
 answered xs e h = by (nat_lt (length xs) 20) refl h
   where
     by : (b : Bool) → nat_lt (length xs) 20 ≡ b → cond b (Err CutOff) (unless (fault_of (fields_of xs)) (fields_of xs)) ≡ Ok e → Answered xs e
-    by true t k = absurd (let z : ◌≡◌ {A = ℕ} 0 1 = cc in omega arith)
+    by true t k = absurd (none-some e (ap result_ok k))
     by false t k =
         let u = unless_ok (fault_of (fields_of xs)) (fields_of xs) e k in
         record { long = ltb-false (length xs) 20 t; faultless = ap fault_of (sym u.1) ∙ u.0; fields = u.1 }
@@ -86,7 +88,7 @@ bytes_forth xs all h =
 pub cut_off : (xs : List ℕ) → length xs < 20 → refusal_of told_of (read_of xs) ≡ Some (plain 4)
 cut_off xs h = ap (refusal_of told_of) (cond-true (nat_lt (length xs) 20) _ _ (lt-ltb (length xs) 20 h))
 
-long_read : (xs : List ℕ) → 20 ≤ length xs → read_of xs ≡ unless (fault_of (fields_of xs)) (fields_of xs)
+pub long_read : (xs : List ℕ) → 20 ≤ length xs → read_of xs ≡ unless (fault_of (fields_of xs)) (fields_of xs)
 long_read xs h = cond-false (nat_lt (length xs) 20) _ _ (le-ltb (length xs) 20 h)
 
 -- every check of the fields is told as a refusal of the layer `record`
@@ -105,19 +107,18 @@ fields_spread xs h =
     same_with (fields_of xs) (ap number (sym (spread_is 1 2 xs (omega arith)))) (ap number (sym (spread_is 6 4 xs (omega arith))))
     (ap (signed_number w32) (sym (spread_is 10 4 xs (omega arith)))) (ap (signed_number w32) (sym (spread_is 14 4 xs (omega arith))))
 
+length_first : (xs : List ℕ) → 20 ≤ length xs → 20 ≤ length (take 20 xs)
+length_first xs h = simp length-take (omega arith)
+
+pub first_fields : (xs : List ℕ) → 20 ≤ length xs → fields_of (take 20 xs) ≡ fields_of xs
+first_fields xs h = ap fields_of (spread_is 0 20 xs h) ∙ fields_spread xs h
+
 -- further bytes are ignored
 pub ahead : (xs : List ℕ) → read_of (take 20 xs) ≡ read_of xs
 ahead xs = ⊎_elim
     (λ l. ap read_of (take_all 20 xs (omega arith)))
-    (λ g. ap read_of (spread_is 0 20 xs g) ∙ ap (λ e. unless (fault_of e) e) (fields_spread xs g) ∙ sym (long_read xs g))
+    (λ g. long_read (take 20 xs) (length_first xs g) ∙ ap (λ e. unless (fault_of e) e) (first_fields xs g) ∙ sym (long_read xs g))
     (cases_lt (length xs) 20)
-
--- where the bytes are long enough, the answer is by the fault of the fields
-pub answers : (xs : List ℕ) (e : Exchange) (o : Option ExchangeFault) → 20 ≤ length xs → e ≡ fields_of xs → o ≡ fault_of e → unless o e ≡ read_of xs
-answers xs e o h f g =
-    ap (λ p. unless p e) g
-    ∙ ap (λ x. unless (fault_of x) x) f
-    ∙ sym (cond-false (nat_lt (length xs) 20) _ _ (le-ltb (length xs) 20 h))
 
 -- the twenty bytes of a lent part, overwritten field by field
 abbrev overwrite : Exchange → List ℕ → List ℕ → List ℕ → List ℕ → List ℕ → List ℕ

@@ -24,7 +24,7 @@ zero_sum e = by_passing e (λ l k. total l ≡ pos 0) (λ s. four_zero e.importe
 pub few : (e : Exchange) → length (postings e) ≤ 64
 few e = by_passing e (λ l k. length l ≤ 64) (λ s. omega arith) (omega arith)
 
-worth_under : (v : ℕ) (z : ℤ) → v ≤ 1000000 → Under 9999999 z → Under 9999999000 (worth v z)
+pub worth_under : (v : ℕ) (z : ℤ) → v ≤ 1000000 → Under 9999999 z → Under 9999999000 (worth v z)
 worth_under v z h u = nearest_under (pos v *ℤ z) 9999999000 (times_under (pos v) z 1000000 9999999 (omega (arith, ints)) u)
 
 one_fair : (m : ℕ) (z : ℤ) → 1 ≤ m → m ≤ 32 → Under 20000000000 z → Fair (record { member = m; cents = z })

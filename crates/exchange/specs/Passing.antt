@@ -1,10 +1,8 @@
 -- What follows of an exchange that passes.
-use Rattle.std.specs.Prelude.{◌≡◌, ℕ, suc, ◌≤◌, Bool, true, false, cond, List, [], ℤ, pos, negsuc, ◌-ℤ◌, ◌*ℤ◌, None, ◌==◌, ◌≢◌, nat_le, slice_index_or, unsigned_abs, refl}
-use Rattle.std.proofs.Common.{sym, ap, ◌∙◌, subst, arith, mul-le-mul_left}
-use Rattle.std.proofs.lemmas.List.{get_or_past}
-use Rattle.record.specs.Meaning.{no_posting}
+use Rattle.std.specs.Prelude.{◌≡◌, ℕ, suc, ◌≤◌, Bool, true, false, cond, List, [], ℤ, pos, negsuc, ◌-ℤ◌, ◌*ℤ◌, None, nat_le, unsigned_abs, refl}
+use Rattle.std.proofs.Common.{arith, mul-le-mul_left}
 use Rattle.std.proofs.lemmas.Int.{ints}
-use Rattle.std.proofs.lemmas.Bool.{and_parts, ne_eqb, leb-true, cond-true, cond-false}
+use Rattle.std.proofs.lemmas.Bool.{and_parts, leb-true, cond-true, cond-false}
 use Rattle.amounts.specs.Floor.{Under}
 use Rattle.amounts.proofs.Floors.{floor_is}
 use Rattle.record.proofs.Checks.{all_hold, none_of}
@@ -12,7 +10,7 @@ use Rattle.record.specs.declared.Posting.{Posting}
 use Rattle.exchange.specs.declared.Exchange.{Exchange}
 use Rattle.record.specs.Reading.{in_range, within}
 use Rattle.exchange.specs.Sound.{Sound}
-use Rattle.exchange.specs.Meaning.{checks, fault_of, passing, share_of, worth, postings, own_postings, four_postings, key_of, own_key}
+use Rattle.exchange.specs.Meaning.{checks, fault_of, passing, share_of, postings, own_postings, key_of, own_key}
 
 range_kept : (low high n : ℕ) → in_range low high n ≡ true → (low ≤ n) × (n ≤ high)
 range_kept low high n h = let p = and_parts (nat_le low n) (nat_le n high) h in (leb-true low n p.0, leb-true n high p.1)
@@ -44,13 +42,6 @@ share_under (negsuc n) p b h u =
     let f = floor_is (negsuc n *ℤ pos p) 100 (omega arith) in
     (omega (arith, ints), omega (arith, ints))
 
--- the same, of a share that was reckoned: z and s are found from the equation
-pub shared_under : (z s : ℤ) (p : ℕ) → s ≡ share_of z p → p ≤ 100 → Under 19999998000 z → Under 19999998000 s
-shared_under z s p e h u = subst (Under 19999998000) (sym e) (share_under z p 19999998000 h u).0
-
-pub own_when : (e : Exchange) (a b s : ℤ) → a ≡ worth e.volume e.importing → b ≡ worth e.volume e.exporting → s ≡ share_of (a -ℤ b) e.percentage → four_postings e.importer e.exporter a b s ≡ own_postings e
-own_when e a b s ea eb es = ap (four_postings e.importer e.exporter a b) es ∙ ap (λ x. four_postings e.importer e.exporter x b (share_of (x -ℤ b) e.percentage)) ea ∙ ap (λ y. four_postings e.importer e.exporter (worth e.volume e.importing) y (share_of (worth e.volume e.importing -ℤ y) e.percentage)) eb
-
 -- where the exchange passes, and where it does not
 pub by_passing : (e : Exchange) (P : List Posting → ℕ → Type 0) → (Sound e → P (own_postings e) (own_key e)) → P [] 0 → P (postings e) (key_of e)
 by_passing e P yes' no' = by (passing e) refl
@@ -64,11 +55,3 @@ key_when e h = cond-true (passing e) (own_key e) 0 h
 
 pub no_key_when : (e : Exchange) → passing e ≡ false → key_of e ≡ 0
 no_key_when e h = cond-false (passing e) (own_key e) 0 h
-
--- another key than that of the fields, and not 0, is not the key
-pub other_key : (e : Exchange) (k : ℕ) → (k ≢ 0) → (own_key e ≢ k) → (key_of e == k) ≡ false
-other_key e k h o = by_passing e (λ l n. (n == k) ≡ false) (λ s. ne_eqb (own_key e) k o) (ne_eqb 0 k (λ z. h (sym z)))
-
--- no posting beyond the fourth
-pub beyond : (e : Exchange) (at : ℕ) → 4 ≤ at → slice_index_or (postings e) at no_posting ≡ no_posting
-beyond e at h = by_passing e (λ l n. slice_index_or l at no_posting ≡ no_posting) (λ s. get_or_past (own_postings e) at no_posting h) (get_or_past [] at no_posting (omega arith))

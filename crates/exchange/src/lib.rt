@@ -1,19 +1,22 @@
 //! Exchanges of balancing energy over a border: a kind of record of 20 bytes.
 #![tactic(auto)]
 
-ghost use Rattle.std.specs.Prelude.{◌≡◌, ◌<◌, ◌≤◌, true, length, pos, ◌*ℤ◌};
+ghost use Rattle.std.specs.Prelude.{◌≡◌, ◌<◌, ◌≤◌, true, length, ◌-ℤ◌};
 ghost use Rattle.amounts.specs.Floor.{Under};
-ghost use Rattle.exchange.specs.Meaning.{fault_of, four_postings, key_of, no_exchange, own_key, own_postings, passing, place_of, postings, share_of, told_of, worth};
-ghost use Rattle.exchange.specs.Sound.{Sound};
+ghost use Rattle.record.specs.Reading.{answer_of, check, unless};
+ghost use Rattle.exchange.specs.declared.ExchangeFault.TheVariants.{OutOfRange};
+ghost use Rattle.exchange.specs.Meaning.{fault_of, key_of, no_exchange, own_key, own_postings, passing, place_of, postings, share_of, told_of, worth};
 ghost use Rattle.exchange.specs.Bytes.{bytes_of, fields_of, read_of};
 ghost use Rattle.exchange.specs.Laws as laws;
 ghost use Rattle.exchange.specs.BytesLemmas as Bytes;
 ghost use Rattle.std.proofs.Common.{rules};
 
 use amounts::{nearest_cent, round_down};
-use record::{Posting, Record, WriteFault, in_range, is_member, is_period, is_within};
+use record::{
+    Posting, Postings, Record, WriteFault, demand, in_range, is_member, is_period, is_within,
+};
 use refusal::{Refusal, Refused};
-use wire::Field;
+use wire::{Field, has_room};
 
 /// The most kWh of one exchange.
 const MOST_VOLUME: u32 = 1_000_000;
@@ -21,10 +24,14 @@ const MOST_VOLUME: u32 = 1_000_000;
 /// The highest price on either side of zero, in cents per MWh.
 const MOST_PRICE: u32 = 9_999_999;
 
+/// How many postings an exchange that passes has.
+const POSTINGS: usize = 4;
+
 /// Energy that one member exports and another imports over a border in one quarter hour.
-#[derive(Clone, Copy)]
+#[derive(Clone, Copy, Default)]
 pub struct Exchange {
     /// 1 for replacement reserves, 2 for manual and 3 for automatic frequency restoration reserves.
+    // A number: the fields hold whatever the bytes hold until the checks of reading pass.
     product: u8,
     /// The quarter hour of the month.
     period: u16,
@@ -100,102 +107,80 @@ impl Refused for ExchangeFault {
     }
 }
 
+/// One check of a field's range.
+fn demand_range(holds: bool, field: ExchangeField) -> Result<(), ExchangeFault>
+    ensures { result ≡ answer_of (check holds (OutOfRange field)) }
+{
+    demand(holds, ExchangeFault::OutOfRange(field))
+}
+
 /// The nearest cents of a volume at a price.
 fn worth_of(volume: u32, price: i32) -> i64
     requires volumes { volume ≤ 1000000 }
     requires prices { Under 9999999 price }
-    ensures value { result ≡ worth volume price }
-    ensures small { Under 9999999000 result }
+    ensures { result ≡ worth volume price }
 {
-    nearest_cent(volume as i64 * price as i64)
+    nearest_cent(i64::from(volume) * i64::from(price))
 }
 
-/// The importer's part of the income, in hundredths of a cent.
-fn hundredths_of(income: i64, percentage: u8) -> i64
-    requires small { Under 19999998000 income }
-    requires part { percentage ≤ 100 }
-    ensures { result ≡ income *ℤ pos percentage }
-{
-    income * percentage as i64
+/// What an exchange is worth at both prices, in cents, and how the income between them is shared.
+#[derive(Clone, Copy)]
+struct Worths {
+    importing: i64,
+    exporting: i64,
+    percentage: u8,
+    ghost importing_small: { Under 9999999000 importing },
+    ghost exporting_small: { Under 9999999000 exporting },
+    ghost part: { percentage ≤ 100 },
 }
 
-/// The importer's share of the income, rounded down.
-fn share_of(income: i64, percentage: u8) -> i64
-    requires small { Under 19999998000 income }
-    requires part { percentage ≤ 100 }
-    ensures { result ≡ share_of income percentage }
-{
-    round_down(hundredths_of(income, percentage), 100)
-}
-
-/// The importer pays `a` and the exporter is paid `b`; of the income `a - b` the importer gets its
-/// share and the exporter the rest.
-fn four_postings(importer: u8, exporter: u8, a: i64, b: i64, share: i64) -> [Posting; 4]
-    requires a { Under 9999999000 a }
-    requires b { Under 9999999000 b }
-    requires share { Under 19999998000 share }
-    ensures { result ≡ four_postings importer exporter a b share }
-{
-    [
-        Posting::to(importer, -a),
-        Posting::to(exporter, b),
-        Posting::to(importer, share),
-        Posting::to(exporter, a - b - share),
-    ]
+impl Worths {
+    /// The importer's share of the income, rounded down.
+    fn share(&self) -> i64
+        ensures { result ≡ share_of (self.now.importing -ℤ self.now.exporting) self.now.percentage }
+    {
+        let income = self.importing - self.exporting;
+        round_down(income * i64::from(self.percentage), 100)
+    }
 }
 
 impl Exchange {
-    /// The first check of reading that the fields fail.
-    fn fault(&self) -> Option<ExchangeFault>
-        ensures { result ≡ fault_of self.now }
+    /// The exchange, where it passes the checks of reading, and else the fault of the first that fails.
+    fn checked(self) -> Result<Exchange, ExchangeFault>
+        ensures { result ≡ unless (fault_of self) self }
     {
-        if !in_range(1, 3, self.product as u32) {
-            return Some(ExchangeFault::OutOfRange(ExchangeField::Product));
-        }
-        if !is_period(self.period) {
-            return Some(ExchangeFault::OutOfRange(ExchangeField::Period));
-        }
-        if !is_member(self.importer) {
-            return Some(ExchangeFault::OutOfRange(ExchangeField::Importer));
-        }
-        if !is_member(self.exporter) {
-            return Some(ExchangeFault::OutOfRange(ExchangeField::Exporter));
-        }
-        if !in_range(1, MOST_VOLUME, self.volume) {
-            return Some(ExchangeFault::OutOfRange(ExchangeField::Volume));
-        }
-        if !is_within(MOST_PRICE, self.importing) {
-            return Some(ExchangeFault::OutOfRange(ExchangeField::ImportingPrice));
-        }
-        if !is_within(MOST_PRICE, self.exporting) {
-            return Some(ExchangeFault::OutOfRange(ExchangeField::ExportingPrice));
-        }
-        if self.percentage > 100 {
-            return Some(ExchangeFault::OutOfRange(ExchangeField::Percentage));
-        }
-        if self.reserved != 0 {
-            return Some(ExchangeFault::OutOfRange(ExchangeField::Reserved));
-        }
-        if self.importer == self.exporter {
-            return Some(ExchangeFault::SameMember);
-        }
-        if self.importing < self.exporting {
-            return Some(ExchangeFault::PriceOrder);
-        }
-        None
+        demand_range(
+            in_range(1, 3, u32::from(self.product)),
+            ExchangeField::Product,
+        )?;
+        demand_range(is_period(self.period), ExchangeField::Period)?;
+        demand_range(is_member(self.importer), ExchangeField::Importer)?;
+        demand_range(is_member(self.exporter), ExchangeField::Exporter)?;
+        demand_range(in_range(1, MOST_VOLUME, self.volume), ExchangeField::Volume)?;
+        demand_range(
+            is_within(MOST_PRICE, self.importing),
+            ExchangeField::ImportingPrice,
+        )?;
+        demand_range(
+            is_within(MOST_PRICE, self.exporting),
+            ExchangeField::ExportingPrice,
+        )?;
+        demand_range(self.percentage <= 100, ExchangeField::Percentage)?;
+        demand_range(self.reserved == 0, ExchangeField::Reserved)?;
+        demand(self.importer != self.exporter, ExchangeFault::SameMember)?;
+        demand(self.exporting <= self.importing, ExchangeFault::PriceOrder)?;
+        Ok(self)
     }
 
     /// Whether the fields pass every check of reading.
     fn passes(&self) -> bool
-        ensures value { result ≡ passing self.now }
-        ensures sound { result ≡ true → Sound self.now }
+        ensures { result ≡ passing self.now }
     {
-        self.fault().is_none()
+        self.checked().is_ok()
     }
 
     /// The fields as they stand in the bytes.
-    fn fields(bytes: &[u8]) -> Exchange
-        requires { 20 ≤ length bytes.now }
+    fn fields(bytes: &[u8; Self::WIDTH]) -> Exchange
         ensures { result ≡ fields_of bytes.now }
     {
         Exchange {
@@ -232,21 +217,41 @@ impl Exchange {
     /// The key of the fields, whether they pass or not.
     fn own_key(&self) -> u64
         ensures value { result ≡ own_key self.now }
-        ensures fits { Sound self.now → result < 4294967296 }
+        ensures fits { passing self.now ≡ true → result < 4294967296 }
     {
-        ((self.product as u64 * 4096 + self.period as u64) * 256 + self.border as u64) * 64
-            + self.importer as u64
+        ((u64::from(self.product) * 4096 + u64::from(self.period)) * 256 + u64::from(self.border))
+            * 64
+            + u64::from(self.importer)
     }
 
-    /// The postings of the fields.
-    fn own_postings(&self) -> [Posting; 4]
-        requires { Sound self.now }
+    /// What the volume is worth to either side.
+    fn worths(&self) -> Worths
+        requires { passing self.now ≡ true }
+        ensures importing { result.importing ≡ worth self.now.volume self.now.importing }
+        ensures exporting { result.exporting ≡ worth self.now.volume self.now.exporting }
+        ensures percentage { result.percentage ≡ self.now.percentage }
+    {
+        Worths {
+            importing: worth_of(self.volume, self.importing),
+            exporting: worth_of(self.volume, self.exporting),
+            percentage: self.percentage,
+        }
+    }
+
+    /// The importer pays and the exporter is paid what the volume is worth to each; of the income
+    /// between them the importer gets its share and the exporter the rest.
+    fn own_postings(&self) -> [Posting; POSTINGS]
+        requires { passing self.now ≡ true }
         ensures { result ≡ own_postings self.now }
     {
-        let a = worth_of(self.volume, self.importing);
-        let b = worth_of(self.volume, self.exporting);
-        let share = share_of(a - b, self.percentage);
-        four_postings(self.importer, self.exporter, a, b, share)
+        let worths = self.worths();
+        let share = worths.share();
+        [
+            Posting::to(self.importer, -worths.importing),
+            Posting::to(self.exporter, worths.exporting),
+            Posting::to(self.importer, share),
+            Posting::to(self.exporter, worths.importing - worths.exporting - share),
+        ]
     }
 }
 
@@ -257,9 +262,9 @@ impl Record for Exchange {
 
     type Fault = ExchangeFault;
 
-    ghost coded = { 1 };
+    ghost CODE = { 1 };
 
-    ghost wide = { 20 };
+    ghost WIDTH = { 20 };
 
     ghost empty = { no_exchange };
 
@@ -297,38 +302,13 @@ impl Record for Exchange {
 
     ghost ahead = { Bytes.ahead };
 
-    fn tag() -> u8 {
-        Self::CODE
-    }
-
-    fn size() -> usize {
-        Self::WIDTH
-    }
-
     fn blank() -> Exchange {
-        Exchange {
-            product: 0,
-            period: 0,
-            border: 0,
-            importer: 0,
-            exporter: 0,
-            volume: 0,
-            importing: 0,
-            exporting: 0,
-            percentage: 0,
-            reserved: 0,
-        }
+        Exchange::default()
     }
 
     fn read(bytes: &[u8]) -> Result<Exchange, ExchangeFault> {
-        if bytes.len() < 20 {
-            return Err(ExchangeFault::CutOff);
-        }
-        let exchange = Exchange::fields(bytes);
-        match exchange.fault() {
-            None => Ok(exchange),
-            Some(fault) => Err(fault),
-        }
+        let bytes = bytes.first_chunk().ok_or(ExchangeFault::CutOff)?;
+        Exchange::fields(bytes).checked()
     }
 
     fn key(&self) -> u32 {
@@ -340,27 +320,17 @@ impl Record for Exchange {
     }
 
     fn count(&self) -> usize {
-        if self.passes() { 4 } else { 0 }
+        if self.passes() { POSTINGS } else { 0 }
     }
 
     fn posting(&self, at: usize) -> Posting {
-        if at >= 4 {
-            return Posting::NONE;
-        }
-        if !self.passes() {
-            return Posting::NONE;
-        }
-        self.own_postings()[at]
+        self.postings().get(at).copied().unwrap_or_default()
     }
 
     fn write(&self, page: &mut [u8], at: usize) -> Result<(), WriteFault> {
-        if !self.passes() {
-            return Err(WriteFault::Blank);
-        }
-        if at > page.len() || page.len() - at < 20 {
-            return Err(WriteFault::PageTooShort);
-        }
-        self.put(&mut page[at..at + 20]);
+        demand(self.passes(), WriteFault::Blank)?;
+        demand(has_room(page, at, Self::WIDTH), WriteFault::PageTooShort)?;
+        self.put(&mut page[at..at + Self::WIDTH]);
         Ok(())
     }
 
@@ -368,17 +338,14 @@ impl Record for Exchange {
         if key == 0 {
             return !self.passes();
         }
-        if self.own_key() != key as u64 {
-            return false;
-        }
-        self.passes()
+        self.own_key() == u64::from(key) && self.passes()
     }
 
-    fn fill(&self, list: &mut [Posting; 64]) -> usize {
-        if !self.passes() {
-            return 0;
+    fn postings(&self) -> Postings {
+        let mut list = Postings::new();
+        if self.passes() {
+            let _fits = list.try_extend_from_slice(&self.own_postings());
         }
-        list[0..4].copy_from_slice(&self.own_postings());
-        4
+        list
     }
 }

@@ -27,6 +27,10 @@ pub record Check (F : Type 0) : Type 0 where
 abbrev pub check : {F : Type 0} → Bool → F → Check F
 check b f = record { holds = b; fault = f }
 
+-- what one check answers
+abbrev pub answer_of : {F : Type 0} → Check F → Result (Unit {0}) F
+answer_of t = cond t.holds (Ok tt) (Err t.fault)
+
 -- the fault of the first check that fails
 abbrev pub first_of : {F : Type 0} → List (Check F) → Option F
 first_of [] = None

@@ -4,28 +4,27 @@
 ghost use Rattle.std.specs.Prelude.{◌≡◌, ℕ, ◌<◌, ◌≤◌, List, [], ◌++◌, length, take, drop, pos, Some, Ok, Err, Result, ◌==◌, ◌≢◌, slice_index_or};
 ghost use Rattle.std.specs.List.{AllByRecursion};
 ghost use Rattle.refusal.specs.Told.{plain};
-ghost use Rattle.wire.specs.Bytes.{Byte};
+ghost use Rattle.wire.specs.Bytes.{Byte, page_after};
 ghost use Rattle.record.specs.declared.Posting.{Posting};
 ghost use Rattle.record.specs.Meaning.{Fair, no_posting, post, total};
-ghost use Rattle.record.specs.Reading.{OfRecord, in_range, is_member, is_period, refusal_of, within};
-ghost use Rattle.record.specs.Writing.{page_after, told_of, writes};
+ghost use Rattle.record.specs.Reading.{OfRecord, answer_of, check, in_range, is_member, is_period, refusal_of, within};
+ghost use Rattle.record.specs.Writing.{told_of, writes};
 
+use arrayvec::ArrayVec;
 use refusal::{Refusal, Refused};
 
-/// An amount in cents for one member: above zero it is paid to the member, below zero by it.
-#[derive(Clone, Copy)]
+/// An amount in cents for one member: above zero it is paid to the member, below zero by it. The default, of no member,
+/// is what a place beyond the last answers.
+#[derive(Clone, Copy, Default)]
 pub struct Posting {
     pub member: u8,
     pub cents: i64,
 }
 
-impl Posting {
-    /// What a place beyond the last answers.
-    pub const NONE: Posting = Posting {
-        member: 0,
-        cents: 0,
-    };
+/// All postings of one record.
+pub type Postings = ArrayVec<Posting, 64>;
 
+impl Posting {
     /// A posting of these cents to this member.
     pub fn to(member: u8, cents: i64) -> Posting
         ensures { result ≡ post member cents }
@@ -55,18 +54,18 @@ impl Refused for WriteFault {
 /// A kind of record. Its fields are plain and closed, and fields that do not pass the checks of
 /// reading count as the blank record, so the laws hold of every value of the type.
 pub trait Record: Copy {
+    /// What stands for the kind in a file.
     const CODE: u8;
 
+    /// The width in bytes.
     const WIDTH: usize;
 
     /// The faults that reading can find, in their order.
     type Fault: Refused;
 
-    /// The code, as `tag` answers it.
-    ghost coded: { ℕ };
+    ghost CODE: { ℕ };
 
-    /// The width in bytes, as `size` answers it.
-    ghost wide: { ℕ };
+    ghost WIDTH: { ℕ };
 
     ghost empty: { Self };
 
@@ -77,14 +76,6 @@ pub trait Record: Copy {
     ghost written: { Self → List ℕ };
 
     ghost reads: { List ℕ → Result Self Self.Fault };
-
-    /// The code, for code that is generic in the kind.
-    fn tag() -> u8
-        ensures { result ≡ coded };
-
-    /// The width, for code that is generic in the kind.
-    fn size() -> usize
-        ensures { result ≡ wide };
 
     fn blank() -> Self
         ensures { result ≡ empty };
@@ -102,12 +93,14 @@ pub trait Record: Copy {
         ensures { result ≡ length (posted self.now) };
 
     /// The posting at a place counted from 0.
+    // Every place has an answer: beyond the last it is member 0 and 0 cents, and no Option.
     fn posting(&self, at: usize) -> Posting
         ensures { result ≡ slice_index_or (posted self.now) at no_posting };
 
+    // Page and place stay two parameters: the page is the caller's, and any place is answered.
     /// Writes the record into a page from a place on.
     fn write(&self, page: &mut [u8], at: usize) -> Result<(), WriteFault>
-        ensures answer { result ≡ writes (keyed self.now) wide at page.old }
+        ensures answer { result ≡ writes (keyed self.now) WIDTH at page.old }
         ensures after { page.new ≡ page_after result at (written self.now) page.old };
 
     /// Whether the record has this key. A kind compares its own fields first, and runs the checks of
@@ -118,20 +111,20 @@ pub trait Record: Copy {
         self.key() == key
     }
 
-    /// Lays all postings over the front of a list at once, and answers how many there are.
-    fn fill(&self, list: &mut [Posting; 64]) -> usize
-        ensures count { result ≡ length (posted self.now) }
-        ensures after { list.new ≡ posted self.now ++ drop (length (posted self.now)) list.old }
+    /// All postings at once.
+    fn postings(&self) -> Postings
+        ensures { result.items ≡ posted self.now }
     {
-        let n = self.count();
-        for i in 0..n {
-            list[i] = self.posting(i);
+        let mut list = Postings::new();
+        // By number, since `posting` answers by its place: there is no slice to go over.
+        for at in 0..self.count() {
+            list.push(self.posting(at));
         }
-        n
+        list
     }
 
     /// The width is at least 1 byte.
-    ghost broad: { 1 ≤ wide };
+    ghost broad: { 1 ≤ WIDTH };
 
     /// The amounts of one record add up to zero.
     ghost zero: { (r : Self) → total (posted r) ≡ pos 0 };
@@ -146,46 +139,53 @@ pub trait Record: Copy {
     /// A record with key 0 has no postings: it counts as the blank.
     ghost alone: { (r : Self) → keyed r ≡ 0 → posted r ≡ [] };
 
-    ghost long: { (r : Self) → (keyed r ≢ 0) → length (written r) ≡ wide };
+    ghost long: { (r : Self) → (keyed r ≢ 0) → length (written r) ≡ WIDTH };
 
     /// What is written is read back, whatever bytes follow.
     ghost back: { (r : Self) (rest : List ℕ) → (keyed r ≢ 0) → reads (written r ++ rest) ≡ Ok r };
 
     /// What is read is written back.
-    ghost forth: { (xs : List ℕ) (r : Self) → AllByRecursion Byte xs → reads xs ≡ Ok r → written r ≡ take wide xs };
+    ghost forth: { (xs : List ℕ) (r : Self) → AllByRecursion Byte xs → reads xs ≡ Ok r → written r ≡ take WIDTH xs };
 
     /// What is read is never blank.
     ghost sure: { (xs : List ℕ) (r : Self) → reads xs ≡ Ok r → keyed r ≢ 0 };
 
     /// Fewer bytes than the width are a record cut off.
-    ghost short: { (xs : List ℕ) → length xs < wide → refusal_of Self.Fault.Refused.told (reads xs) ≡ Some (plain 4) };
+    ghost short: { (xs : List ℕ) → length xs < WIDTH → refusal_of Self.Fault.Refused.told (reads xs) ≡ Some (plain 4) };
 
     /// Every other fault is the record's own; a field out of range comes with its place.
-    ghost layer: { (xs : List ℕ) (f : Self.Fault) → wide ≤ length xs → reads xs ≡ Err f → OfRecord wide (Self.Fault.Refused.told f) };
+    ghost layer: { (xs : List ℕ) (f : Self.Fault) → WIDTH ≤ length xs → reads xs ≡ Err f → OfRecord WIDTH (Self.Fault.Refused.told f) };
 
     /// Bytes beyond the width are ignored.
-    ghost ahead: { (xs : List ℕ) → reads (take wide xs) ≡ reads xs };
+    ghost ahead: { (xs : List ℕ) → reads (take WIDTH xs) ≡ reads xs };
+}
+
+/// One check: its fault, where it does not hold.
+pub fn demand<F: Drop>(holds: bool, fault: F) -> Result<(), F>
+    ensures { result ≡ answer_of (check holds fault) }
+{
+    if holds { Ok(()) } else { Err(fault) }
 }
 
 /// Whether this is the number of a member.
 pub fn is_member(n: u8) -> bool
     ensures { result ≡ is_member n }
 {
-    in_range(1, 32, n as u32)
+    in_range(1, 32, u32::from(n))
 }
 
 /// Whether this is the number of a quarter hour of a month.
 pub fn is_period(n: u16) -> bool
     ensures { result ≡ is_period n }
 {
-    in_range(1, 2980, n as u32)
+    in_range(1, 2980, u32::from(n))
 }
 
 /// Whether `low <= n <= high`.
 pub fn in_range(low: u32, high: u32, n: u32) -> bool
     ensures { result ≡ in_range low high n }
 {
-    low <= n && n <= high
+    (low..=high).contains(&n)
 }
 
 /// Whether `-limit <= z <= limit`.

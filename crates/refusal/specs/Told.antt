@@ -1,5 +1,5 @@
 -- How a refusal is told: its number and detail, and the layer that it comes from.
-use Rattle.std.specs.Prelude.{ℕ, cond, List, Some, None, codes, nat_le}
+use Rattle.std.specs.Prelude.{ℕ, cond, List, [], ◌++◌, Some, None, Option, codes, decimal, nat_le}
 use Rattle.refusal.specs.declared.Refusal.{Refusal}
 use Rattle.refusal.specs.declared.Layer.{Layer}
 use Rattle.refusal.specs.declared.Layer.TheVariants.{File, Record, Book}
@@ -14,6 +14,14 @@ plain n = record { number = n; detail = None }
 
 abbrev pub detailed : ℕ → ℕ → Refusal
 detailed n v = record { number = n; detail = Some v }
+
+-- how a refusal is printed: its number, and the detail in parentheses where there is one
+abbrev pub detail_text : Option ℕ → List ℕ
+detail_text None = []
+detail_text (Some v) = codes " (" ++ decimal v ++ codes ")"
+
+abbrev pub text_of : Refusal → List ℕ
+text_of r = decimal r.number ++ detail_text r.detail
 
 -- file for 1 to 4, record for 5 to 10, book for the rest
 abbrev pub layer_of : ℕ → Layer

@@ -1,6 +1,0 @@
-use Rattle.std.proofs.Common.{arith}
-use Rattle.wire.specs.Fields.{number_copied}
-use Rattle.wire.proofs.U16Field.get.Goals as goal
-
-pub returns : goal.returns
-returns c = let e = number_copied 2 _ c.args.part.now c.requires c.copy_from_slice.ensures.after in omega arith
