@@ -1,2 +1,3 @@
+pub mod Commands
 pub mod Header
 pub mod Steps

@@ -1,55 +1,47 @@
--- The commands of a settlement file, one step after another.
-use Rattle.std.specs.Prelude.{ℕ, ◌+◌, cond, List, length, Some, None, Ok, Err, Option, Result, ◌==◌, nat_le, nat_lt, slice_index}
+-- The steps through a settlement file, whatever its commands are.
+use Rattle.std.specs.Prelude.{◌≡◌, ℕ, ◌+◌, cond, List, length, drop, Some, None, Ok, Err, Option, Result, nat_le, nat_lt, slice_index}
 use Rattle.refusal.specs.declared.Refusal.{Refusal}
 use Rattle.refusal.specs.Told as told
-use Rattle.wire.specs.Bytes.{part}
-use Rattle.journal.specs.declared.Command.{Command}
-use Rattle.journal.specs.declared.Command.TheVariants.{Book, Close}
 use Rattle.journal.specs.declared.CommandFault.{CommandFault}
 use Rattle.journal.specs.declared.CommandFault.TheVariants.{Unknown, CutOff}
+use Rattle.journal.specs.declared.FileReader.{FileReader}
 
 -- A step through a file: a command by its place and operands, a fault, or the end.
-pub data Step : Type 0 where
-  ends : Step
-  fails : CommandFault → Step
-  books : ℕ → List ℕ → Step
-  closes : ℕ → Step
+pub data Step (C : Type 0) : Type 0 where
+  ends : Step C
+  fails : CommandFault → Step C
+  reads : C → Step C
 
 -- a reader's answer as a step
-abbrev pub plain : Option (Result Command CommandFault) → Step
-plain None = ends
-plain (Some (Err f)) = fails f
-plain (Some (Ok (Book p r))) = books p r.now
-plain (Some (Ok (Close p))) = closes p
+abbrev pub step : {A C : Type 0} → (A → C) → Option (Result A CommandFault) → Step C
+step plain None = ends
+step plain (Some (Err f)) = fails f
+step plain (Some (Ok c)) = reads (plain c)
 
--- a command whose operands of n bytes have to stand in the file
-abbrev pub whole : ℕ → List ℕ → ℕ → Step → Step
-whole n xs p s = cond (nat_le (p + 1 + n) (length xs)) s (fails (CutOff p))
+-- a command at place p whose n bytes of operands have to stand in what follows
+abbrev pub whole : {C : Type 0} → ℕ → ℕ → List ℕ → C → Step C
+whole n p rest c = cond (nat_le n (length rest)) (reads c) (fails (CutOff p))
 
--- the command with this code at place p, where a record has w bytes
-abbrev pub command_at : ℕ → ℕ → List ℕ → ℕ → Step
-command_at code w xs p =
-    cond (code == 0x10) (whole w xs p (books p (part (p + 1) w xs)))
-    (cond (code == 0x13) (closes p)
-    (fails (Unknown p)))
-
-abbrev pub step_at : ℕ → List ℕ → ℕ → Step
-step_at w xs p = cond (nat_lt p (length xs)) (command_at (slice_index xs p) w xs p) ends
+-- the step at place p, where a record has w bytes
+abbrev pub step_at : {C : Type 0} → (ℕ → ℕ → ℕ → List ℕ → Step C) → ℕ → List ℕ → ℕ → Step C
+step_at step_of w xs p = cond (nat_lt p (length xs)) (step_of (slice_index xs p) p w (drop (p + 1) xs)) ends
 
 -- where the reader stands after a step: a fault ends the file
-abbrev pub after_step : Step → ℕ → List ℕ → ℕ → ℕ
-after_step ends w xs p = p
-after_step (fails _) w xs p = length xs
-after_step (books _ _) w xs p = p + 1 + w
-after_step (closes _) w xs p = p + 1
+abbrev pub after_step : {C : Type 0} → (C → ℕ → ℕ) → Step C → ℕ → List ℕ → ℕ → ℕ
+after_step size ends w xs p = p
+after_step size (fails _) w xs p = length xs
+after_step size (reads c) w xs p = p + 1 + size c w
 
--- the place of a step's command byte
-abbrev pub place_of : Step → ℕ
-place_of ends = 0
-place_of (fails (Unknown p)) = p
-place_of (fails (CutOff p)) = p
-place_of (books p _) = p
-place_of (closes p) = p
+-- a call gives the step at the reader's place, and moves the reader past that step in the same file
+pub record Gives {A C : Type 0} (plain : A → C) (step_of : ℕ → ℕ → ℕ → List ℕ → Step C) (size : C → ℕ → ℕ) (s : FileReader A) (r : Option (Result A CommandFault)) (t : FileReader A) : Type 0 where
+  pub value : step plain r ≡ step_at step_of s.width s.bytes.now s.at
+  pub at : t.at ≡ after_step size (step plain r) s.width s.bytes.now s.at
+  pub same : (t.bytes.now ≡ s.bytes.now) × (t.width ≡ s.width)
+
+-- the place of a fault's command byte
+abbrev pub place_of_fault : CommandFault → ℕ
+place_of_fault (Unknown p) = p
+place_of_fault (CutOff p) = p
 
 abbrev pub told_of_command : CommandFault → Refusal
 told_of_command (Unknown _) = told.plain 3

@@ -1,20 +1,30 @@
 //! The accounts of the members, and what postings and statements do to them.
 #![tactic(auto)]
 
-ghost use Rattle.std.specs.Prelude.{◌≡◌, ◌≤◌, map, pos, neg_ℤ, ◌≤ℤ◌};
-ghost use Rattle.std.specs.List.{AllByRecursion};
-ghost use Rattle.record.specs.Meaning.{Fair};
+ghost use Rattle.std.specs.Prelude.{◌≡◌, ◌≤◌, ℤ, map};
+ghost use Rattle.record.specs.Meaning.{Fair, post};
+ghost use Rattle.record.specs.declared.Posting.{Posting};
 ghost use Rattle.ledger.specs.Moves.{account_of, all_posted, charge, issued, last_charges, new_ledger, opposite, posted_to};
 
-use record::{Posting, Record, is_member};
+use record::{Posting, Record};
 use refusal::MemberFault;
 
 /// A member's account: the balance, what was charged so far, and the last charge.
-#[derive(Clone, Copy)]
+#[derive(Clone, Copy, Debug, Default, PartialEq, Eq)]
 pub struct Account {
     pub balance: i64,
     pub charged: i64,
     pub last: i64,
+}
+
+impl Account {
+    /// Charges what the balance has beyond what was charged before.
+    fn charge(&mut self)
+        ensures { self.new ≡ charge self.old }
+    {
+        self.last = self.balance.saturating_sub(self.charged);
+        self.charged = self.balance;
+    }
 }
 
 /// The accounts of the members 1 to 32.
@@ -29,11 +39,7 @@ impl Ledger {
         ensures { result ≡ new_ledger }
     {
         Ledger {
-            accounts: [Account {
-                balance: 0,
-                charged: 0,
-                last: 0,
-            }; 32],
+            accounts: [Account::default(); 32],
         }
     }
 
@@ -41,63 +47,53 @@ impl Ledger {
     pub fn account(&self, member: u8) -> Result<Account, MemberFault>
         ensures { result ≡ account_of self.now member }
     {
-        if !is_member(member) {
-            return Err(MemberFault::Unknown);
-        }
-        Ok(self.accounts[(member - 1) as usize])
+        member
+            .checked_sub(1)
+            .and_then(|at| self.accounts.get(usize::from(at)))
+            .copied()
+            .ok_or(MemberFault::Unknown)
     }
 
     /// Makes each posting of a record.
     pub fn put<R: Record>(&mut self, item: &R)
         ensures { self.new ≡ all_posted self.old (R.posted item.now) }
     {
-        let mut list = [Posting::NONE; 64];
-        let n = item.fill(&mut list);
-        self.post_all(&list[0..n]);
+        self.post_each(item, |cents| cents);
     }
 
     /// Takes each posting of a record back, by its opposite.
     pub fn take_back<R: Record>(&mut self, item: &R)
         ensures { self.new ≡ all_posted self.old (map opposite (R.posted item.now)) }
     {
-        let mut list = [Posting::NONE; 64];
-        let count = item.fill(&mut list);
-        self.unpost_all(&list[0..count]);
+        self.post_each(item, |cents| -cents);
     }
 
     /// Issues a statement: each member is charged what its balance has beyond what was charged before.
     pub fn issue(&mut self)
         ensures { self.new ≡ issued self.old }
     {
-        charge_all(&mut self.accounts);
+        for account in &mut self.accounts {
+            account.charge();
+        }
     }
 
     /// The last charges of the members 1 to 32.
     pub fn last_charges(&self) -> [i64; 32]
         ensures { result ≡ last_charges self.now }
     {
-        let mut charges = [0; 32];
-        for i in 0..32usize {
-            charges[i] = self.accounts[i].last;
-        }
-        charges
+        self.accounts.map(|account| account.last)
     }
 
-    fn post_all(&mut self, postings: &[Posting])
-        requires { AllByRecursion Fair postings.now }
-        ensures { self.new ≡ all_posted self.old postings.now }
+    /// Makes each posting of a record, its cents turned by a function.
+    fn post_each<R: Record, F: Fn(i64) -> i64>(&mut self, item: &R, turned: F)
+        requires { (p : Posting) → Fair p → F.pre turned p.cents }
+        ensures { (turns : ℤ → ℤ) → ((p : Posting) (cents : ℤ) → Fair p → F.post turned p.cents cents → cents ≡ turns p.cents) → self.new ≡ all_posted self.old (map (λ p. post p.member (turns p.cents)) (R.posted item.now)) }
     {
-        for p in postings {
-            self.post(*p);
-        }
-    }
-
-    fn unpost_all(&mut self, postings: &[Posting])
-        requires { AllByRecursion Fair postings.now }
-        ensures { self.new ≡ all_posted self.old (map opposite postings.now) }
-    {
-        for p in postings {
-            self.post(reversed(*p));
+        for p in item.postings().as_slice() {
+            self.post(Posting {
+                cents: turned(p.cents),
+                ..*p
+            });
         }
     }
 
@@ -107,38 +103,7 @@ impl Ledger {
         requires last { p.member ≤ 32 }
         ensures { self.new ≡ posted_to self.old p }
     {
-        let at = (p.member - 1) as usize;
-        let old = self.accounts[at];
-        self.accounts[at] = Account {
-            balance: old.balance.saturating_add(p.cents),
-            charged: old.charged,
-            last: old.last,
-        };
-    }
-}
-
-/// The posting that takes another back.
-fn reversed(p: Posting) -> Posting
-    requires { neg_ℤ (pos 20000000000) ≤ℤ p.cents }
-    ensures { result ≡ opposite p }
-{
-    Posting::to(p.member, -p.cents)
-}
-
-fn charge_all(accounts: &mut [Account])
-    ensures { accounts.new ≡ map charge accounts.old }
-{
-    for i in 0..accounts.len() {
-        accounts[i] = charged_up(accounts[i]);
-    }
-}
-
-fn charged_up(a: Account) -> Account
-    ensures { result ≡ charge a }
-{
-    Account {
-        balance: a.balance,
-        charged: a.balance,
-        last: a.balance.saturating_sub(a.charged),
+        let account = &mut self.accounts[usize::from(p.member - 1)];
+        account.balance = account.balance.saturating_add(p.cents);
     }
 }

@@ -1,2 +1,2 @@
+mod Adding
 pub mod Long
-mod Writing

@@ -1,22 +1,15 @@
 -- How long the lines are.
-use Rattle.std.proofs.Common.{◌≡◌, ℕ, ◌+◌, ◌/◌, ◌%◌, ◌^◌, ◌<◌, ◌≤◌, [], ◌∷◌, length, ℤ, decimal, ap, ◌∙◌, arith, lit≤, length-append, w64, SFits}
+use Rattle.std.proofs.Common.{◌≡◌, ℕ, ◌+◌, ◌<◌, ◌≤◌, length, ℤ, decimal, arith, lit≤, length-append, w64, SFits}
 use Rattle.std.specs.Fmt.{signed_decimal}
-use Rattle.std.proofs.lemmas.Fmt.{decimal_step, length-decimal-le, length_signed_le}
+use Rattle.std.proofs.lemmas.Fmt.{length-decimal-le, length_signed_le}
 use Rattle.std.proofs.lemmas.Int.{ints}
 use Rattle.refusal.specs.declared.Layer.{Layer}
 use Rattle.refusal.specs.declared.Layer.TheVariants.{File, Record, Book}
 use Rattle.refusal.specs.Told.{layer_of, name_of}
 use Rattle.report.specs.Line.{refusal_line, account_line}
 
--- The last digit is one byte more.
-pub decimal_longer : (n : ℕ) → 10 ≤ n → n < 2 ^ 64 → length (decimal n) ≡ length (decimal (n / 10)) + 1
-decimal_longer n h f = ap length (decimal_step n h f) ∙ length-append (decimal (n / 10)) ((48 + n % 10) ∷ [])
-
 pub byte_short : (n : ℕ) → n < 256 → length (decimal n) ≤ 3
 byte_short n h = length-decimal-le 3 n (omega arith) (omega arith) (omega arith)
-
-pub unsigned_short : (n : ℕ) → n < 2 ^ 64 → length (decimal n) ≤ 20
-unsigned_short n h = length-decimal-le 20 n (omega arith) (omega arith) h
 
 pub signed_short : (z : ℤ) → SFits w64 z → length (signed_decimal z) ≤ 20
 signed_short z f = length_signed_le 19 z (omega (arith, ints)) (omega (arith, ints))

@@ -20,12 +20,13 @@ pub struct Statement {
 }
 
 impl Statement {
+    // Page and place stay two parameters: the page is the caller's, and any place is answered.
     /// Writes the statement into a page from a place on.
     pub fn write(&self, page: &mut [u8], at: usize) -> Result<(), PageFault>
         ensures answer { result ≡ writes at page.old }
         ensures after { page.new ≡ page_after result at (bytes_of self.now) page.old }
     {
-        if at > page.len() || page.len() - at < WIDTH {
+        if !wire::has_room(page, at, WIDTH) {
             return Err(PageFault::TooShort);
         }
         self.put(&mut page[at..at + WIDTH]);
@@ -48,7 +49,5 @@ fn put_charges(charges: &[i64; 32], part: &mut [u8])
     requires { length part.old ≡ 256 }
     ensures { part.new ≡ amounts charges.now }
 {
-    for i in 0..32usize {
-        charges[i].put(&mut part[8 * i..8 * i + 8]);
-    }
+    part.copy_from_slice(charges.map(i64::to_be_bytes).as_flattened());
 }

@@ -1,6 +1,0 @@
-use Rattle.std.proofs.Common.{◌≡◌, ℕ, ◌<◌, length, get_or, pos}
-use Rattle.ledger.specs.Moves.{last_charges}
-use Rattle.ledger.proofs.Ledger.last_charges.Given as goal
-
-abbrev pub invariant-loop-i : goal.invariant-loop-i
-invariant-loop-i l = (length l.charges ≡ 32) × ((k : ℕ) → k < l.i → get_or l.charges k (pos 0) ≡ get_or (last_charges l.self) k (pos 0))
