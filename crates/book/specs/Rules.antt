@@ -1,13 +1,13 @@
 -- When a call is refused, and as what it is told.
-use Rattle.std.specs.Prelude.{ℕ, Bool, true, false, cond, not, List, Some, None, Option, ◌==◌, nat_lt}
+use Rattle.std.specs.Prelude.{ℕ, Bool, true, false, cond, not, List, Some, None, Ok, Err, Option, Result, ◌==◌, nat_lt}
 use Rattle.refusal.specs.declared.Refusal.{Refusal}
 use Rattle.refusal.specs.Told.{detailed, plain}
-use Rattle.book.specs.declared.slots.Slot.{Slot}
+use Rattle.slots.specs.declared.Slot.{Slot}
 use Rattle.book.specs.declared.register.BookState.{BookState}
 use Rattle.book.specs.declared.register.BookState.TheVariants.{Open, Closed}
 use Rattle.book.specs.declared.register.BookFault.{BookFault}
 use Rattle.book.specs.declared.register.BookFault.TheVariants.{Blank, State, Full, Stands}
-use Rattle.book.specs.Entries.{lookup}
+use Rattle.slots.specs.Entries.{lookup}
 
 -- what each fault is told as; 23 comes with the number of the record that stands
 abbrev pub told_of : BookFault → Refusal
@@ -43,8 +43,13 @@ abbrev pub book_refusal : {R : Type 0} → (R → ℕ) → ℕ → ℕ → List 
 book_refusal keyed capacity used entries state x =
     unless (not (keyed x == 0)) Blank
     (unless (changes state) State
-    (unless_stands (lookup keyed (keyed x) 0 entries)
+    (unless_stands (lookup keyed (keyed x) entries)
     (unless (nat_lt used capacity) Full None)))
+
+-- a judgement: the fault, if there is one
+abbrev pub judged : Option BookFault → Result (Unit {0}) BookFault
+judged None = Ok tt
+judged (Some e) = Err e
 
 -- closing: 21
 abbrev pub close_refusal : BookState → Option BookFault

@@ -5,7 +5,7 @@ ghost use Rattle.book.specs.Rules.{changes, told_of};
 use ledger::Ledger;
 use refusal::{Refusal, Refused};
 
-#[derive(Clone, Copy)]
+#[derive(Clone, Copy, PartialEq, Eq)]
 pub(crate) enum BookState {
     Open,
     Closed,
@@ -43,7 +43,7 @@ impl Refused for BookFault {
             BookFault::Blank => Refusal::plain(11),
             BookFault::State => Refusal::plain(21),
             BookFault::Full => Refusal::plain(22),
-            BookFault::Stands(n) => Refusal::with(23, *n as usize),
+            BookFault::Stands(n) => Refusal::with(23, usize::from(*n)),
         }
     }
 }
@@ -52,8 +52,5 @@ impl Refused for BookFault {
 pub(crate) fn may_change(state: BookState) -> bool
     ensures { result ≡ changes state }
 {
-    match state {
-        BookState::Open => true,
-        BookState::Closed => false,
-    }
+    state == BookState::Open
 }

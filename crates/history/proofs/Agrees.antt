@@ -4,16 +4,17 @@ use Rattle.std.proofs.lemmas.List.{length-map, length-take-le}
 use Rattle.refusal.specs.declared.Refusal.{Refusal}
 use Rattle.record.specs.declared.Posting.{Posting}
 use Rattle.record.specs.Reading.{refusal_of}
-use Rattle.whole_book.specs.declared.slots.Slot.{Slot}
+use Rattle.slots.specs.declared.Slot.{Slot}
 use Rattle.whole_book.specs.declared.permit.Permit.{Permit}
 use Rattle.whole_book.specs.declared.register.Register.{Register}
 use Rattle.whole_book.specs.declared.register.BookState.{BookState}
 use Rattle.whole_book.specs.declared.register.BookState.TheVariants.{Open, Closed, Reopened}
 use Rattle.whole_book.specs.declared.register.BookFault.{BookFault}
 use Rattle.whole_book.specs.declared.register.BookFault.TheVariants.{Blank, State, Full, NotStanding, OtherKey, LastEdition, OtherPermit, Changed}
-use Rattle.whole_book.specs.Entries.{standing_at}
+use Rattle.slots.specs.Entries.{standing_at}
 use Rattle.whole_book.specs.Rules.{abandonable, bookable, changes, closable, correctable, fits, is_closed, is_open, is_reopened, of_any, of_key, provided, reissuable, reopenable, told_of, withdrawable}
-use Rattle.whole_book.specs.Steps.{capacity, entries}
+use Rattle.slots.specs.Calls.{capacity}
+use Rattle.whole_book.specs.Steps.{entries}
 use Rattle.history.specs.Plain as plain
 use Rattle.history.specs.Plain.{Abandons, Books, Call, Closes, Corrects, Plain, Reissues, Reopens, Withdraws, refusal, standing_as}
 use Rattle.history.specs.History.{entry_of, state_of}

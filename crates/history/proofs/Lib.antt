@@ -1,3 +1,4 @@
+pub mod Accepted
 pub mod Split
 pub mod Sums
 pub mod Moves

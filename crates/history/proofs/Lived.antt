@@ -2,16 +2,16 @@
 use Rattle.std.proofs.Common.{ℕ, List, [], ◌∷◌, ◌++◌, Result, sym, refl, subst}
 use Rattle.std.proofs.lemmas.List.{append_assoc, append-nil}
 use Rattle.record.specs.declared.Posting.{Posting}
-use Rattle.whole_book.specs.declared.slots.Slot.{Slot}
+use Rattle.slots.specs.declared.Slot.{Slot}
 use Rattle.whole_book.specs.declared.register.Register.{Register}
-use Rattle.whole_book.specs.Steps as steps
+use Rattle.slots.specs.Calls as calls
 use Rattle.whole_book.specs.Steps.{abandoning, booking, closing, correcting, new_register, reissuing, reopening, withdrawing}
 use Rattle.history.specs.Plain.{Abandons, Answer, Books, Call, Closes, Corrects, Done, Numbered, Permits, Reissues, Reopens, Withdraws}
 use Rattle.history.specs.Lives.{Acts, Came, further, opened, told, told_unspent}
 use Rattle.history.specs.History.{AllLived, Lived}
 
 -- a call comes out as its contract says
-as_said : {R A E : Type 0} (d : steps.Done R A E) (tell : Result A E → Answer) → Came d tell (tell d.answer) d.slots d.register
+as_said : {R A E : Type 0} (d : calls.Done R Register A E) (tell : Result A E → Answer) → Came d tell (tell d.answer) d.slots d.register
 as_said d tell = record { result = d.answer; came = record { answers = refl; leaves = refl; keeps = refl }; tells = refl }
 
 module _ {R : Type 0} (keyed : R → ℕ) (posted : R → List Posting) where

@@ -1,19 +1,21 @@
 -- A book's slots, shown as the entries of the plain book.
-use Rattle.std.proofs.Common.{◌≡◌, ℕ, zero, suc, ◌+◌, ◌-◌, ◌<◌, Bool, true, false, cond, ◌&&◌, ◌||◌, eqb, List, [], ◌∷◌, ◌++◌, map, set, Some, None, Option, sym, refl, ap, ◌∙◌, arith}
+use Rattle.std.proofs.Common.{◌≡◌, ℕ, zero, suc, ◌+◌, ◌-◌, ◌<◌, Bool, true, false, cond, ◌&&◌, ◌||◌, eqb, List, [], ◌∷◌, ◌++◌, map, set, Some, None, Option, option_map, sym, refl, ap, ◌∙◌, arith}
 use lib.Seq.{map-set, set_at}
+use Rattle.std.specs.List.{position_from}
+use Rattle.std.proofs.lemmas.Iterator.Adapters.{position_from-zero}
 use Rattle.std.proofs.lemmas.Bool.{eq-eqb, ne_eqb}
-use Rattle.whole_book.specs.declared.slots.Slot.{Slot}
-use Rattle.whole_book.specs.declared.slots.SlotState.{SlotState}
-use Rattle.whole_book.specs.declared.slots.SlotState.TheVariants.{Standing, Withdrawn}
-use Rattle.whole_book.specs.Entries.{first_where, lookup, standing_at, standing_in, stands}
-use Rattle.whole_book.proofs.Numbers.{none_at_zero, skip}
+use Rattle.slots.specs.declared.Slot.{Slot}
+use Rattle.slots.specs.declared.SlotState.{SlotState}
+use Rattle.slots.specs.declared.SlotState.TheVariants.{Standing, Withdrawn}
+use Rattle.slots.specs.Entries.{hits, lookup, standing_at, standing_in, stands}
+use Rattle.slots.proofs.Numbers.{none_at_zero, skip}
 use Rattle.history.specs.Plain.{Entry, all_standing, first_in, is_in, numbers_from, standing, standing_as, with_number, withdrawn}
 use Rattle.history.specs.History.{entry_of}
 use Rattle.history.proofs.Split.{Stood, changed_at}
 
-first_cons : (b : Bool) (n : ℕ) (o : Option ℕ) (ns : List ℕ) → o ≡ first_in ns → cond b (Some n) o ≡ first_in (cond b (n ∷ ns) ns)
-first_cons true n o ns h = refl
-first_cons false n o ns h = h
+first_cons : (b : Bool) (n : ℕ) (place : Option ℕ) (ns : List ℕ) → option_map (λ i. i + 1) place ≡ first_in ns → option_map (λ i. i + 1) (cond b (Some n) place) ≡ first_in (cond b ((n + 1) ∷ ns) ns)
+first_cons true n place ns h = refl
+first_cons false n place ns h = h
 
 in_rest : (b : Bool) (n m : ℕ) (ns : List ℕ) → eqb n m ≡ false → is_in n (cond b (m ∷ ns) ns) ≡ is_in n ns
 in_rest true n m ns h = ap (λ t. t || is_in n ns) h
@@ -25,9 +27,9 @@ in_front false n m ns h k = k
 
 module _ {R : Type 0} (test : Entry R → Bool) where
   -- the first slot that passes a test has the first of the numbers that pass it
-  first_shown : (n : ℕ) (ss : List (Slot R)) → first_where (λ s. test (entry_of s)) n ss ≡ first_in (numbers_from (n + 1) test (map entry_of ss))
+  first_shown : (n : ℕ) (ss : List (Slot R)) → option_map (λ i. i + 1) (position_from (λ s. test (entry_of s)) n ss) ≡ first_in (numbers_from (n + 1) test (map entry_of ss))
   first_shown n [] = refl
-  first_shown n (s ∷ ss) = first_cons (test (entry_of s)) (n + 1) (first_where (λ s. test (entry_of s)) (n + 1) ss) (numbers_from (n + 1 + 1) test (map entry_of ss)) (first_shown (n + 1) ss)
+  first_shown n (s ∷ ss) = first_cons (test (entry_of s)) n (position_from (λ s. test (entry_of s)) (n + 1) ss) (numbers_from (n + 1 + 1) test (map entry_of ss)) (first_shown (n + 1) ss)
 
   -- no number comes before the one that is counted from
   in_before : (m n : ℕ) (es : List (Entry R)) → n < m → is_in n (numbers_from m test es) ≡ false
@@ -62,7 +64,7 @@ stands_any n ss = in_shown (λ e. e.stands) (λ _. true) (λ x. refl) (λ x. ref
 module _ {R : Type 0} (keyed : R → ℕ) (k : ℕ) where
   -- a look-up answers the first of the numbers that stand under the key
   pub looked : (ss : List (Slot R)) → lookup keyed k ss ≡ first_in (standing_as keyed k (map entry_of ss))
-  looked ss = first_shown (λ e. e.stands && eqb (keyed e.item) k) 0 ss
+  looked ss = ap (option_map (λ i. i + 1)) (position_from-zero (hits keyed k) ss) ∙ first_shown (λ e. e.stands && eqb (keyed e.item) k) 0 ss
 
   -- whether the record of a number stands under the key
   pub stands_as : (n : ℕ) (ss : List (Slot R)) → is_in n (standing_as keyed k (map entry_of ss)) ≡ and_passes (λ x. eqb (keyed x) k) (standing_at n ss)

@@ -1,7 +1,7 @@
 -- A book and its plain book go together, call by call.
-use Rattle.std.proofs.Common.{◌≡◌, ℕ, ◌+◌, ◌-◌, ◌<◌, ◌≤◌, min, Bool, true, false, cond, List, [], ◌∷◌, ◌++◌, map, length, take, set, replicate, ℤ, pos, Some, None, Ok, Err, fold, Option, Result, sym, refl, ap, ◌∙◌, subst, ap₂, arith, length-set}
+use Rattle.std.proofs.Common.{◌≡◌, ℕ, ◌+◌, ◌-◌, ◌<◌, ◌≤◌, min, Bool, true, false, cond, List, [], ◌∷◌, ◌++◌, map, length, take, set, replicate, ℤ, pos, Some, None, Ok, Err, fold, Option, Result, sym, refl, ap, ◌∙◌, subst, ap₂, arith, length-append, length-set}
 use lib.Seq.{take-set-lt}
-use Rattle.std.proofs.lemmas.List.{append-nil, length-take-le, map_push, take_more_set}
+use Rattle.std.proofs.lemmas.List.{append-nil, length-map, length-take-le, map_push, take_more_set}
 use Rattle.std.proofs.lemmas.List.Sums.{fold_push}
 use Rattle.std.proofs.lemmas.Bool.{ltb-true}
 use Rattle.std.specs.List.{AllByRecursion}
@@ -10,17 +10,18 @@ use Rattle.record.specs.declared.Posting.{Posting}
 use Rattle.record.specs.Meaning.{total as posted_total, Fair}
 use Rattle.ledger.specs.declared.Ledger.{Ledger}
 use Rattle.ledger.specs.Moves.{all_posted}
-use Rattle.whole_book.specs.declared.slots.Slot.{Slot}
+use Rattle.slots.specs.declared.Slot.{Slot}
 use Rattle.whole_book.specs.declared.register.Register.{Register}
 use Rattle.whole_book.specs.declared.register.BookState.{BookState}
 use Rattle.whole_book.specs.declared.register.BookState.TheVariants.{Closed, Reopened}
 use Rattle.whole_book.specs.declared.register.BookFault.{BookFault}
-use Rattle.whole_book.specs.Entries.{standing_at}
+use Rattle.slots.specs.Entries.{standing_at}
 use Rattle.whole_book.specs.Rules.{told_of}
+use Rattle.slots.specs.Calls as calls
 use Rattle.whole_book.specs.Steps as steps
-use Rattle.whole_book.specs.Steps.{alone, capacity, changed_to, entries, in_state, issuing, new_register, unless_refused, unspent, without}
-use Rattle.whole_book.proofs.Accepted.{corrected_stands, withdrawn_stands}
-use Rattle.whole_book.proofs.Numbers.{number_within}
+use Rattle.slots.specs.Calls.{capacity}
+use Rattle.whole_book.specs.Steps.{alone, changed_to, entries, in_state, issuing, new_register, unless_refused, unspent, without}
+use Rattle.history.proofs.Accepted.{corrected_stands, withdrawn_stands}
 use Rattle.history.specs.Plain as plain
 use Rattle.history.specs.Plain.{Abandons, Answer, Books, Call, Closes, Corrects, Done, Entry, Numbered, Permits, Plain, Reissues, Reopens, Withdraws, after, answer, checks, issues, new_plain, per_member, refusal, standing, standing_as, step, sum_of, with_number, withdrawn}
 use Rattle.history.specs.Lives.{Acts, Came, Life, further, opened, read_charges, told, told_unspent}
@@ -66,7 +67,7 @@ module _ {R : Type 0} (keyed : R → ℕ) (posted : R → List Posting) (nought 
     moved state mark = rw append-nil (record { ns = ns; shows = refl; room = room; size = refl; numbered = refl; kept = kept })
 
     -- a call that is judged as by the plain book
-    finish : {A B E : Type 0} (c : Call R) (tell : Result B E → Answer) (hand : BookFault → E) (judged : Result A BookFault) (next : A → steps.Done R B E) (a : Answer) (ss' : List (Slot R)) (b' : Register) →
+    finish : {A B E : Type 0} (c : Call R) (tell : Result B E → Answer) (hand : BookFault → E) (judged : Result A BookFault) (next : A → calls.Done R Register B E) (a : Answer) (ss' : List (Slot R)) (b' : Register) →
         refused judged ≡ refuses c →
         ((e : BookFault) → refuses c ≡ Some (told_of e) → tell (Err (hand e)) ≡ answer keyed posted (capacity ss) b.number p c) →
         ((x : A) → Ok x ≡ judged → refuses c ≡ None → N c (tell (next x).answer) (next x).slots (next x).register) →
@@ -85,7 +86,7 @@ module _ {R : Type 0} (keyed : R → ℕ) (posted : R → List Posting) (nought 
         rw (append-nil, sym shape)
         (record { ns = ns; shows = refl; room = omega (arith, size); size = size; numbered = refl; kept = rw shape k })
 
-    books : (x : R) → refuses (Books x) ≡ None → N (Books x) (Numbered (b.used + 1)) (set ss b.used (steps.standing x)) (changed_to b (b.used + 1) (all_posted b.ledger (posted x)))
+    books : (x : R) → refuses (Books x) ≡ None → N (Books x) (Numbered (b.used + 1)) (set ss b.used (calls.standing x)) (changed_to b (b.used + 1) (all_posted b.ledger (posted x)))
     books x h =
         let long = length_shown ss b (omega arith) in
         let held = all_hold (checks keyed posted (capacity ss) b.number p (Books x)) h in
@@ -93,8 +94,8 @@ module _ {R : Type 0} (keyed : R → ℕ) (posted : R → List Posting) (nought 
         record {
           answers = rw h (ap (λ n. Numbered (n + 1)) (sym long));
           tied = rw h
-              (changed b.used (b.used + 1) (steps.standing x) (all_posted b.ledger (posted x)) (map entry_of (entries ss b) ++ standing x ∷ []) (omega arith)
-              (ap (map entry_of) (take_more_set ss b.used (steps.standing x) (omega arith)) ∙ map_push entry_of (entries ss b) (steps.standing x))
+              (changed b.used (b.used + 1) (calls.standing x) (all_posted b.ledger (posted x)) (map entry_of (entries ss b) ++ standing x ∷ []) (omega arith)
+              (ap (map entry_of) (take_more_set ss b.used (calls.standing x) (omega arith)) ∙ map_push entry_of (entries ss b) (calls.standing x))
               (booked posted nought few fair kept x (omega arith)));
         }
 
@@ -105,17 +106,17 @@ module _ {R : Type 0} (keyed : R → ℕ) (posted : R → List Posting) (nought 
       -- the slot of a standing record is written
       rewritten : (s : Slot R) (f : Entry R → Entry R) → f (standing old) ≡ entry_of s → map entry_of (take b.used (set ss (n - 1) s)) ≡ with_number n f (map entry_of (entries ss b))
       rewritten s f same =
-          let within = number_within (entries ss b) n old stands in
+          let size = ap length there.is in
           let long = length-take-le b.used ss (omega arith) in
-          ap (map entry_of) (take-set-lt b.used ss (n - 1) s (omega arith)) ∙ written n old (entries ss b) s f there same
+          ap (map entry_of) (take-set-lt b.used ss (n - 1) s (omega (arith, there.at, size, length-map (entries ss b) entry_of, length-append there.front (standing old ∷ there.back)))) ∙ written n old (entries ss b) s f there same
 
-      corrects : (x : R) → refuses (Corrects n x) ≡ None → N (Corrects n x) Done (set ss (n - 1) (steps.standing x)) (changed_to b b.used (all_posted (without b.ledger (posted old)) (posted x)))
+      corrects : (x : R) → refuses (Corrects n x) ≡ None → N (Corrects n x) Done (set ss (n - 1) (calls.standing x)) (changed_to b b.used (all_posted (without b.ledger (posted old)) (posted x)))
       corrects x h =
           record {
             answers = rw h;
             tied = rw h
-                (changed (n - 1) b.used (steps.standing x) (all_posted (without b.ledger (posted old)) (posted x)) (with_number n (λ _. standing x) (map entry_of (entries ss b))) room
-                (rewritten (steps.standing x) (λ _. standing x) refl)
+                (changed (n - 1) b.used (calls.standing x) (all_posted (without b.ledger (posted old)) (posted x)) (with_number n (λ _. standing x) (map entry_of (entries ss b))) room
+                (rewritten (calls.standing x) (λ _. standing x) refl)
                 (replaced posted nought few fair kept n old x there));
           }
 

@@ -7,12 +7,13 @@ use Rattle.record.specs.declared.Posting.{Posting}
 use Rattle.record.specs.Reading.{is_member}
 use Rattle.ledger.specs.declared.Account.{Account}
 use Rattle.ledger.specs.Moves.{account_of, last_charges}
-use Rattle.whole_book.specs.declared.slots.Slot.{Slot}
+use Rattle.slots.specs.declared.Slot.{Slot}
 use Rattle.whole_book.specs.declared.register.Register.{Register}
 use Rattle.whole_book.specs.declared.register.BookState.{BookState}
 use Rattle.whole_book.specs.declared.register.BookState.TheVariants as register
-use Rattle.whole_book.specs.Entries.{lookup, stands}
-use Rattle.whole_book.specs.Steps.{capacity, entries}
+use Rattle.slots.specs.Entries.{lookup, stands}
+use Rattle.slots.specs.Calls.{capacity}
+use Rattle.whole_book.specs.Steps.{entries}
 use Rattle.history.specs.Plain.{Call, Answer, Entry, Plain, State, Open, Closed, Reopened, new_plain, after, answer, first_in, of_member, per_member, standing_as, step, sum_of}
 use Rattle.history.specs.Lives.{Life}
 

@@ -4,13 +4,14 @@ use Rattle.refusal.specs.declared.MemberFault.{MemberFault}
 use Rattle.record.specs.declared.Posting.{Posting}
 use Rattle.ledger.specs.declared.Account.{Account}
 use Rattle.ledger.specs.Moves.{account_of}
-use Rattle.whole_book.specs.declared.slots.Slot.{Slot}
+use Rattle.slots.specs.declared.Slot.{Slot}
 use Rattle.whole_book.specs.declared.permit.Unspent.{Unspent}
 use Rattle.whole_book.specs.declared.register.Register.{Register}
 use Rattle.whole_book.specs.declared.register.BookFault.{BookFault}
 use Rattle.whole_book.specs.Rules.{told_of}
-use Rattle.whole_book.specs.Steps as steps
-use Rattle.whole_book.specs.Steps.{Comes, abandoning, booking, capacity, closing, correcting, new_register, reissuing, reopening, withdrawing}
+use Rattle.slots.specs.Calls as calls
+use Rattle.slots.specs.Calls.{Comes, capacity}
+use Rattle.whole_book.specs.Steps.{abandoning, booking, closing, correcting, new_register, reissuing, reopening, withdrawing}
 use Rattle.history.specs.Plain.{Call, Books, Corrects, Withdraws, Closes, Reopens, Reissues, Abandons, Answer, Done, Numbered, Permits, Refuses, Returns, after, issues, per_member}
 
 -- a call's result as an answer
@@ -23,7 +24,7 @@ told_unspent (Ok _) = Done
 told_unspent (Err u) = Returns (told_of u.fault) u.permit
 
 -- a call whose contract is d came to slots ss and register b, and to a result that is told as a
-pub record Came {R A E : Type 0} (d : steps.Done R A E) (tell : Result A E → Answer) (a : Answer) (ss : List (Slot R)) (b : Register) : Type 0 where
+pub record Came {R A E : Type 0} (d : calls.Done R Register A E) (tell : Result A E → Answer) (a : Answer) (ss : List (Slot R)) (b : Register) : Type 0 where
   pub result : Result A E
   pub came : Comes d result ss b
   pub tells : a ≡ tell result

@@ -7,11 +7,11 @@ use Rattle.record.specs.declared.Posting.{Posting}
 use Rattle.record.specs.Reading.{is_member}
 use Rattle.ledger.specs.Moves.{last_charges}
 use Rattle.statement.specs.declared.Statement.{Statement}
-use Rattle.whole_book.specs.declared.slots.Slot.{Slot}
+use Rattle.slots.specs.declared.Slot.{Slot}
 use Rattle.whole_book.specs.declared.register.Register.{Register}
 use Rattle.whole_book.specs.declared.page.StatementFault.{StatementFault}
 use Rattle.whole_book.specs.declared.page.StatementFault.TheVariants.{NoneYet, PageTooShort}
-use Rattle.whole_book.specs.Entries.{gives, standing_at}
+use Rattle.slots.specs.Entries.{gives, standing_at}
 
 -- A search for a posting of at least z to member m answers the number of any standing record that has one, and none only where there is no such record.
 abbrev pub Finds : {R : Type 0} → (R → List Posting) → ℕ → ℤ → List (Slot R) → Result (Option ℕ) MemberFault → Type 0

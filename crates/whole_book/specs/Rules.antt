@@ -2,14 +2,14 @@
 use Rattle.std.specs.Prelude.{◌≡◌, ℕ, Bool, true, false, cond, not, ◌&&◌, List, Some, None, Ok, Err, Option, Result, ◌==◌, nat_lt}
 use Rattle.refusal.specs.declared.Refusal.{Refusal}
 use Rattle.refusal.specs.Told.{detailed, plain}
-use Rattle.whole_book.specs.declared.slots.Slot.{Slot}
+use Rattle.slots.specs.declared.Slot.{Slot}
 use Rattle.whole_book.specs.declared.permit.Permit.{Permit}
 use Rattle.whole_book.specs.declared.register.Register.{Register}
 use Rattle.whole_book.specs.declared.register.BookState.{BookState}
 use Rattle.whole_book.specs.declared.register.BookState.TheVariants.{Open, Closed, Reopened}
 use Rattle.whole_book.specs.declared.register.BookFault.{BookFault}
 use Rattle.whole_book.specs.declared.register.BookFault.TheVariants.{Blank, State, Full, Stands, NotStanding, OtherKey, LastEdition, OtherPermit, Changed}
-use Rattle.whole_book.specs.Entries.{lookup, standing_at}
+use Rattle.slots.specs.Entries.{lookup, standing_at}
 
 -- what each fault is told as; 23 comes with the number of the record that stands
 abbrev pub told_of : BookFault → Refusal

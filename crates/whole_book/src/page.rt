@@ -1,7 +1,9 @@
 //! Why no statement is written into a page.
+ghost use Rattle.std.specs.Prelude.{◌≡◌};
 ghost use Rattle.whole_book.specs.Questions.{told_of_statement};
+ghost use Rattle.whole_book.specs.declared.page.StatementFault.TheVariants.{PageTooShort};
 
-use refusal::{Refusal, Refused};
+use refusal::{PageFault, Refusal, Refused};
 
 #[derive(Clone, Copy)]
 pub enum StatementFault {
@@ -17,6 +19,16 @@ impl Refused for StatementFault {
         match self {
             StatementFault::NoneYet => Refusal::plain(29),
             StatementFault::PageTooShort => Refusal::plain(13),
+        }
+    }
+}
+
+impl From<PageFault> for StatementFault {
+    ghost from_gives = { λ _ r. r ≡ PageTooShort };
+
+    fn from(fault: PageFault) -> StatementFault {
+        match fault {
+            PageFault::TooShort => StatementFault::PageTooShort,
         }
     }
 }

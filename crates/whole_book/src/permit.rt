@@ -8,6 +8,16 @@ pub struct Permit {
     pub(crate) edition: u16,
 }
 
+impl Permit {
+    /// Takes the permit apart.
+    pub(crate) fn spend(self) {
+        let Permit {
+            number: _,
+            edition: _,
+        } = self;
+    }
+}
+
 /// A refusal, with the permit that was handed in.
 pub struct Unspent {
     pub fault: BookFault,

@@ -8,7 +8,8 @@ use ledger::Ledger;
 use refusal::{Refusal, Refused};
 use statement::Statement;
 
-#[derive(Clone, Copy)]
+// The first book's states and faults are fewer, and its promises speak of those alone.
+#[derive(Clone, Copy, PartialEq, Eq)]
 pub(crate) enum BookState {
     Open,
     Closed,
@@ -24,6 +25,7 @@ pub(crate) struct Register {
     /// How many slots are booked, withdrawn ones counted.
     pub(crate) used: usize,
     /// Whether a record was booked, corrected or withdrawn since the book was reopened.
+    // A mark beside the state: the calls that set it do so in an open book as in a reopened one.
     pub(crate) changed: bool,
     pub(crate) ledger: Ledger,
 }
@@ -82,7 +84,7 @@ impl Refused for BookFault {
             BookFault::Blank => Refusal::plain(11),
             BookFault::State => Refusal::plain(21),
             BookFault::Full => Refusal::plain(22),
-            BookFault::Stands(n) => Refusal::with(23, *n as usize),
+            BookFault::Stands(n) => Refusal::with(23, usize::from(*n)),
             BookFault::NotStanding => Refusal::plain(24),
             BookFault::OtherKey => Refusal::plain(25),
             BookFault::LastEdition => Refusal::plain(26),
@@ -96,9 +98,5 @@ impl Refused for BookFault {
 pub(crate) fn may_change(state: BookState) -> bool
     ensures { result ≡ changes state }
 {
-    match state {
-        BookState::Open => true,
-        BookState::Closed => false,
-        BookState::Reopened => true,
-    }
+    state != BookState::Closed
 }

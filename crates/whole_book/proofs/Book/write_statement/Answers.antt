@@ -1,10 +1,4 @@
-use Rattle.std.proofs.Common.{ap, ◌∙◌, rules}
-use Rattle.wire.specs.Bytes.{placed}
-use Rattle.statement.specs.Page.{bytes_of}
 use Rattle.whole_book.proofs.Book.write_statement.Goals as goal
 
-pub returns-in-Ok : goal.returns-in-Ok
-returns-in-Ok g c = record {
-  answer = search rules;
-  after = c.in-Ok.ensures.after ∙ ap (λ s. placed c.args.at (bytes_of s) c.args.page.now) c.statement.ensures;
-}
+pub returns-clause-after : goal.returns-clause-after
+returns-clause-after g c = let made = c.statement.ensures in let after = c.in_ok-write.ensures.after in cc

@@ -1,10 +1,10 @@
 -- What is known of the record that a call is granted.
 use Rattle.std.proofs.Common.{◌≡◌, ℕ, Bool, true, false, not, eqb, List, Some, None, Ok, Option, Result, refl, ap, arith}
-use Rattle.whole_book.specs.declared.slots.Slot.{Slot}
+use Rattle.slots.specs.declared.Slot.{Slot}
 use Rattle.whole_book.specs.declared.register.BookState.{BookState}
 use Rattle.whole_book.specs.declared.register.BookFault.{BookFault}
 use Rattle.whole_book.specs.declared.register.BookFault.TheVariants.{Blank, State, OtherKey}
-use Rattle.whole_book.specs.Entries.{standing_at}
+use Rattle.slots.specs.Entries.{standing_at}
 use Rattle.whole_book.specs.Rules.{changes, correctable, of_any, of_key, provided, withdrawable}
 
 -- a test that was passed
