@@ -2,12 +2,14 @@
 #![tactic(auto)]
 
 use amounts::{cut, nearest_cent};
-use book::{Book, BookFault, Slot, SlotState};
+use book::{Book, BookFault};
 use exchange::Exchange;
-use record::Record;
+use ledger::Account;
+use record::{Posting, Record};
 use refusal::{Refusal, Refused};
+use slots::{Slot, SlotState};
 use std::io;
-use wire::Field;
+use wire::{Field, has_room};
 
 /// Automatic reserves, quarter hour 1, border 5, importer 1, exporter 2, 12,345 kWh at 6,001 and
 /// 4,000, half of the income each.
@@ -58,6 +60,7 @@ fn unsigned_fields(rt: &HostRuntime) -> io::Result<()> {
     println!(rt; "read back: {a} {b} {c} {d}")
 }
 
+// Apart from the unsigned ones: one function for both would have to ask for the width of each of four types.
 fn signed_fields(rt: &HostRuntime) -> io::Result<()> {
     let mut page = [0; 15];
     (-100i8).put(&mut page[0..1]);
@@ -74,11 +77,7 @@ fn signed_fields(rt: &HostRuntime) -> io::Result<()> {
 
 /// Prints a refusal after its example's name.
 fn show_refusal(rt: &HostRuntime, name: &str, refusal: Refusal) -> io::Result<()> {
-    let number = refusal.number;
-    match refusal.detail {
-        None => println!(rt; "{name}: refused {number}"),
-        Some(detail) => println!(rt; "{name}: refused {number} ({detail})"),
-    }
+    println!(rt; "{name}: refused {refusal}")
 }
 
 /// Reads an exchange and prints its key and postings, or why it is refused.
@@ -88,10 +87,9 @@ fn show(rt: &HostRuntime, name: &str, bytes: &[u8]) -> io::Result<()> {
         Ok(exchange) => {
             let key = exchange.key();
             print!(rt; "{name}: key {key}, postings")?;
+            // By place, since it is `posting` that is shown.
             for at in 0..exchange.count() {
-                let posting = exchange.posting(at);
-                let member = posting.member;
-                let cents = posting.cents;
+                let Posting { member, cents } = exchange.posting(at);
                 print!(rt; " {member}:{cents}")?;
             }
             println!(rt; "")
@@ -102,7 +100,7 @@ fn show(rt: &HostRuntime, name: &str, bytes: &[u8]) -> io::Result<()> {
 /// Shows the sample with some bytes replaced.
 fn show_with(rt: &HostRuntime, name: &str, at: usize, bytes: &[u8]) -> io::Result<()> {
     let mut sample = SAMPLE;
-    if at <= 20 && bytes.len() <= 20 - at {
+    if has_room(&sample, at, bytes.len()) {
         sample[at..at + bytes.len()].copy_from_slice(bytes);
     }
     show(rt, name, &sample)
@@ -214,12 +212,13 @@ fn show_account(rt: &HostRuntime, book: &Book<Exchange>, member: u8) -> io::Resu
             print!(rt; "member {member} ")?;
             show_refusal(rt, "account", fault.refusal())
         }
-        Ok(account) => {
-            let balance = account.balance;
-            let charged = account.charged;
-            let last = account.last;
-            println!(rt; "member {member} account: {balance} {charged} {last}")
-        }
+        Ok(
+            Account {
+                balance,
+                charged,
+                last,
+            },
+        ) => println!(rt; "member {member} account: {balance} {charged} {last}"),
     }
 }
 

@@ -1,5 +1,5 @@
 -- The permit that is held beside a book.
-use Rattle.std.specs.Prelude.{◌≡◌, false, Some, None, Ok, Err, Option, Result}
+use Rattle.std.specs.Prelude.{◌≡◌, false, Some, None, Ok, Err, Option, Result, MatchOption}
 use Rattle.whole_book.specs.declared.permit.Permit.{Permit}
 use Rattle.whole_book.specs.declared.permit.Unspent.{Unspent}
 use Rattle.whole_book.specs.declared.register.Register.{Register}
@@ -7,8 +7,7 @@ use Rattle.whole_book.specs.Rules.{Fitting, is_reopened}
 
 -- A permit is held just while the book is reopened, and it is the book's own.
 abbrev pub Held : Option Permit → Register → Type 0
-Held None b = is_reopened b.state ≡ false
-Held (Some p) b = Fitting p b
+Held held b = MatchOption held (is_reopened b.state ≡ false) (λ p. Fitting p b)
 
 -- what is held after a permit was handed in: it comes back with a refusal
 abbrev pub left_by : Result (Unit {0}) Unspent → Option Permit

@@ -1,0 +1,88 @@
+//! A settlement file from its bytes to its report, however its commands are worked off: what the programs share. It
+//! reserves the memory for file and page, and nothing below it reserves any.
+#![tactic(auto)]
+
+ghost use Rattle.std.specs.Prelude.{◌≡◌, ℕ, List, [], ◌∷◌, take, IfOk, IfSome, OnOk, option_map};
+ghost use Rattle.std.specs.Io.KnownBytes.{Appends};
+ghost use Rattle.report.specs.Lines.{Added};
+ghost use Rattle.desk.specs.Refused.{whole_refused};
+
+use anyhow::anyhow;
+use exchange::Exchange;
+use journal::{FileFault, Header};
+use record::Record;
+use refusal::{PageFault, Refused};
+use report::Report;
+use slots::{Slot, SlotState};
+use std::alloc::Global;
+use std::io;
+use std::io::{Read, Write};
+
+/// One byte more than a file may have, so that a longer one shows.
+pub const INPUT: usize = 32769;
+
+/// Holds the report of any file: a line for each byte, and one for each member.
+pub const PAGE: usize = 640 * 1024;
+
+/// A way to work a file's commands off.
+pub trait Desk {
+    /// Works a file's commands off over a new book of this number. Reports those that are refused,
+    /// and then the accounts.
+    fn clear<R: Record>(
+        number: u32,
+        file: &[u8],
+        slots: &mut [Slot<R>],
+        report: &mut Report<'_>,
+    ) -> Result<(), PageFault>
+        // That the page stays the same is here and in `settle`: it relates before and after, which no fact in a type can.
+        ensures { report.new.page.ghost_name ≡ report.old.page.ghost_name };
+}
+
+/// Reads a file, works it off, and writes its report.
+pub fn run<D: Desk, I: Read, O: Write>(
+    input: &mut I,
+    output: &mut O,
+    alloc: Global,
+) -> anyhow::Result<()>
+    ensures refused { OnOk result (IfSome (I.remaining input.old) (λ file. IfSome (whole_refused file) (λ line. Appends (O.contents output.old) (O.contents output.new) line))) }
+    ensures grown { OnOk result ((report : List ℕ) × Appends (O.contents output.old) (O.contents output.new) report) }
+{
+    let file = read_file(input, alloc)?;
+    let mut page = vec![in alloc; 0u8; PAGE]?;
+    let mut report = Report::new(&mut page);
+    match settle::<D>(&file, &mut report) {
+        Ok(()) => output.write_all(report.lines())?,
+        Err(_) => return Err(anyhow!("the report does not fit its page")),
+    }
+    Ok(())
+}
+
+/// Reads an input to its end, but no more than shows that it is too long for a file.
+pub fn read_file<I: Read>(input: &mut I, alloc: Global) -> io::Result<Vec<u8>>
+    ensures { IfOk result (λ file. IfSome (option_map (take 32769) (I.remaining input.old)) (λ bytes. file.items ≡ bytes)) }
+{
+    let mut file = Vec::new(alloc);
+    input.take(INPUT as u64).read_to_end(&mut file)?;
+    Ok(file)
+}
+
+/// Reports a file: as a whole if it is refused, and else by its commands and accounts.
+pub fn settle<D: Desk>(file: &[u8], report: &mut Report<'_>) -> Result<(), PageFault>
+    ensures refused { IfSome (whole_refused file.now) (λ line. Added (line ∷ []) report.old.page report.old.end report.new.page report.new.end result) }
+    ensures lent { report.new.page.ghost_name ≡ report.old.page.ghost_name }
+{
+    match Header::read(file) {
+        Err(fault) => report.refuse(0, fault.refusal()),
+        // A kind is a type, so which one a code means can only be told by an arm for each.
+        Ok(header) => match header.code {
+            Exchange::CODE => {
+                let mut slots = [Slot {
+                    item: Exchange::blank(),
+                    state: SlotState::Withdrawn,
+                }; 64];
+                D::clear(header.number, file, &mut slots, report)
+            }
+            _ => report.refuse(0, FileFault::UnknownKind.refusal()),
+        },
+    }
+}
