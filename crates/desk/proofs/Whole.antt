@@ -1,6 +1,6 @@
 -- What is written for a file that is refused as a whole.
 use Rattle.std.proofs.Common.{◌≡◌, ℕ, ◌+◌, ◌<◌, Bool, true, false, cond, ◌&&◌, List, [], ◌∷◌, length, take, drop, Some, None, Option, option_map, IfSome, sym, refl, ap, ◌∙◌, subst, ⊎_elim, arith}
-use Rattle.std.specs.Prelude.{Ok, Err, Result, nat_le}
+use Rattle.std.specs.Prelude.{Ok, Err, Result, is_ok, nat_le}
 use Rattle.std.specs.Borrow.{MutBor}
 use Rattle.std.specs.Io.KnownBytes.{Appends}
 use Rattle.std.proofs.lemmas.Bool.{and_right, cases_lt, cond-false, lt-leb}
@@ -17,6 +17,11 @@ use Rattle.desk.specs.Refused.{whole_fault, whole_refused}
 -- a page, the place where its lines end, and an answer
 abbrev State : Type 0
 State = List ℕ × (ℕ × Result (Unit {0}) PageFault)
+
+-- an answer that is Ok
+pub fitted : (r : Result (Unit {0}) PageFault) → true ≡ is_ok r → r ≡ Ok tt
+fitted (Ok _) e = refl
+fitted (Err f) e = grind arith
 
 -- a line that was added was added whole
 added : (b : Bool) (fit stop after : State) → stop.1.1 ≡ Err TooShort → after.1.1 ≡ Ok tt → cond b fit stop ≡ after → fit ≡ after

@@ -50,10 +50,8 @@ pub fn run<D: Desk, I: Read, O: Write>(
     let file = read_file(input, alloc)?;
     let mut page = vec![in alloc; 0u8; PAGE]?;
     let mut report = Report::new(&mut page);
-    match settle::<D>(&file, &mut report) {
-        Ok(()) => output.write_all(report.lines())?,
-        Err(_) => return Err(anyhow!("the report does not fit its page")),
-    }
+    settle::<D>(&file, &mut report).map_err(|_| anyhow!("the report does not fit its page"))?;
+    output.write_all(report.lines())?;
     Ok(())
 }
 
