@@ -1,5 +1,5 @@
 -- What is written for a file that is refused as a whole.
-use Rattle.std.proofs.Common.{◌≡◌, ℕ, ◌+◌, ◌<◌, Bool, true, false, cond, ◌&&◌, List, [], ◌∷◌, length, take, drop, Some, None, Option, option_map, IfSome, sym, refl, ap, ◌∙◌, subst, ⊎_elim, arith}
+use Rattle.std.proofs.Common.{◌≡◌, ℕ, ◌+◌, ◌<◌, Bool, true, false, cond, ◌&&◌, List, [], ◌∷◌, ◌++◌, length, take, drop, Some, None, Option, option_map, IfSome, sym, refl, ap, ◌∙◌, subst, ⊎_elim, arith}
 use Rattle.std.specs.Prelude.{Ok, Err, Result, is_ok, nat_le}
 use Rattle.std.specs.Borrow.{MutBor}
 use Rattle.std.specs.Io.KnownBytes.{Appends}
@@ -38,6 +38,10 @@ only_line line before after start end none came =
     let page = sym (ap (λ s. s.0) fit) in
     ap (λ n. take n after) ends ∙ ap (take (length line)) page ∙ take-append_seam line (drop (0 + length line) before)
 
+-- a buffer that was written over whole
+pub written_over : (n : ℕ) (new old : List ℕ) → length new ≡ n → take n (new ++ drop (length new) old) ≡ new
+written_over n new old h = ap (λ m. take m (new ++ drop (length new) old)) (sym h) ∙ take-append_seam new (drop (length new) old)
+
 long : (file : List ℕ) → 32768 < length file → header_of file ≡ Err Length
 long file h = cond-false (nat_le 5 (length file) && nat_le (length file) 32768) _ _ (and_right _ _ (lt-leb (length file) 32768 h))
 
@@ -58,7 +62,7 @@ module _ (before after : MutBor (List ℕ)) (lines : List ℕ) (start end : ℕ)
   line_written (Some line) came = subst (Appends old new) (all ∙ only_line line before.now after.now start end none came.came) wrote
 
   -- of a file, of which the first 32,769 bytes were read
-  pub whole_written : (known : Option (List ℕ)) (file : List ℕ) → IfSome (option_map (take 32769) known) (λ bytes. file ≡ bytes)
+  pub whole_written : (known : Option (List ℕ)) (file : List ℕ) → IfSome known (λ bytes. file ≡ take 32769 bytes)
       → IfSome (whole_refused file) (λ line. Added (line ∷ []) before start after end (Ok tt))
       → IfSome known (λ bytes. IfSome (whole_refused bytes) (λ line. Appends old new line))
   whole_written None file read came = tt

@@ -2,7 +2,7 @@
 //! reserves the memory for file and page, and nothing below it reserves any.
 #![tactic(auto)]
 
-ghost use Rattle.std.specs.Prelude.{◌≡◌, ℕ, List, [], ◌∷◌, take, IfOk, IfSome, OnOk, option_map};
+ghost use Rattle.std.specs.Prelude.{◌≡◌, ◌≤◌, ℕ, List, [], ◌∷◌, length, take, IfOk, IfSome, OnOk};
 ghost use Rattle.std.specs.Io.KnownBytes.{Appends};
 ghost use Rattle.report.specs.Lines.{Added};
 ghost use Rattle.desk.specs.Refused.{whole_refused};
@@ -47,21 +47,33 @@ pub fn run<D: Desk, I: Read, O: Write>(
     ensures refused { OnOk result (IfSome (I.remaining input.old) (λ file. IfSome (whole_refused file) (λ line. Appends (O.contents output.old) (O.contents output.new) line))) }
     ensures grown { OnOk result ((report : List ℕ) × Appends (O.contents output.old) (O.contents output.new) report) }
 {
-    let file = read_file(input, alloc)?;
+    let mut buf = vec![in alloc; 0u8; INPUT]?;
     let mut page = vec![in alloc; 0u8; PAGE]?;
+    let n = read_up_to(input, &mut buf)?;
+    let file = &buf[..n];
     let mut report = Report::new(&mut page);
-    settle::<D>(&file, &mut report).map_err(|_| anyhow!("the report does not fit its page"))?;
-    output.write_all(report.lines())?;
+    settle::<D>(file, &mut report).map_err(|_| anyhow!("the report does not fit its page"))?;
+    let lines = report.lines();
+    output.write_all(lines)?;
     Ok(())
 }
 
-/// Reads an input to its end, but no more than shows that it is too long for a file.
-pub fn read_file<I: Read>(input: &mut I, alloc: Global) -> io::Result<Vec<u8>>
-    ensures { IfOk result (λ file. IfSome (option_map (take 32769) (I.remaining input.old)) (λ bytes. file.items ≡ bytes)) }
+/// Reads until the buffer is full or the input ends; answers how many bytes came.
+// Each read asks for all the room that is left. `read_to_end` begins with less, and a socket of packets drops what a read
+// leaves of one; it also reads again after a signal, where this one answers the error.
+pub fn read_up_to<I: Read>(input: &mut I, buf: &mut [u8]) -> io::Result<usize>
+    ensures within { IfOk result (λ n. n ≤ length buf.old) }
+    ensures bytes { IfOk result (λ n. IfSome (I.remaining input.old) (λ bytes. take n buf.new ≡ take (length buf.old) bytes)) }
 {
-    let mut file = Vec::new(alloc);
-    input.take(INPUT as u64).read_to_end(&mut file)?;
-    Ok(file)
+    let mut n = 0;
+    while n < buf.len() {
+        let more = input.read(&mut buf[n..])?;
+        if more == 0 {
+            break;
+        }
+        n += more;
+    }
+    Ok(n)
 }
 
 /// Reports a file: as a whole if it is refused, and else by its commands and accounts.

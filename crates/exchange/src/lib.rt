@@ -324,7 +324,11 @@ impl Record for Exchange {
     }
 
     fn posting(&self, at: usize) -> Posting {
-        self.postings().get(at).copied().unwrap_or_default()
+        if at < POSTINGS && self.passes() {
+            self.own_postings()[at]
+        } else {
+            Posting::default()
+        }
     }
 
     fn write(&self, page: &mut [u8], at: usize) -> Result<(), WriteFault> {
@@ -341,11 +345,10 @@ impl Record for Exchange {
         self.own_key() == u64::from(key) && self.passes()
     }
 
-    fn postings(&self) -> Postings {
-        let mut list = Postings::new();
+    fn fill(&self, list: &mut Postings) {
+        list.clear();
         if self.passes() {
             let _fits = list.try_extend_from_slice(&self.own_postings());
         }
-        list
     }
 }

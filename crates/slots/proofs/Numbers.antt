@@ -1,6 +1,6 @@
 -- The record of a number.
-use Rattle.std.proofs.Common.{◌≡◌, ℕ, zero, suc, ◌-◌, ◌<◌, ◌≤◌, false, cond, eqb, List, [], ◌∷◌, length, get_or, None, refl, ap, ◌∙◌, arith}
-use Rattle.std.proofs.lemmas.Bool.{ne_eqb}
+use Rattle.std.proofs.Common.{◌≡◌, ℕ, zero, suc, ◌-◌, ◌<◌, ◌≤◌, false, cond, eqb, List, [], ◌∷◌, length, get_or, Some, None, Option, refl, ap, ◌∙◌, ⊎_elim, arith}
+use Rattle.std.proofs.lemmas.Bool.{ne_eqb, cases_lt}
 use Rattle.slots.specs.declared.Slot.{Slot}
 use Rattle.slots.specs.Entries.{standing_at, standing_in}
 
@@ -23,3 +23,13 @@ module _ {R : Type 0} where
   at_place [] m d h = absurd (omega arith)
   at_place (x ∷ xs) zero d h = refl
   at_place (x ∷ xs) (suc m) d h = skip x xs (suc (suc m)) (suc m) refl (omega arith) ∙ at_place xs m d (omega arith)
+
+  not_none : (old : R) (o : Option R) → o ≡ None → Some old ≡ o → ⊥
+  not_none old o p q = let z : ◌≡◌ {A = ℕ} 0 1 = cc in omega arith
+
+  -- the number of a standing record is one of those in use
+  pub number_within : (xs : List (Slot R)) (n : ℕ) (old : R) → Some old ≡ standing_at n xs → (1 ≤ n) × (n ≤ length xs)
+  number_within xs n old h = (
+    ⊎_elim (λ small. absurd (not_none old (standing_at n xs) (ap (λ j. standing_at j xs) (let e : n ≡ 0 = omega arith in e) ∙ none_at_zero xs) h)) (λ k. k) (cases_lt n 1),
+    ⊎_elim (λ big. absurd (not_none old (standing_at n xs) (none_past xs n big) h)) (λ k. k) (cases_lt (length xs) n),
+  )

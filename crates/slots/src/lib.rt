@@ -4,7 +4,7 @@
 ghost use Rattle.std.specs.Prelude.{◌≡◌, ◌+◌, ◌<◌, ◌≤◌, IfSome, length, min, option_map, position, take};
 ghost use Rattle.slots.specs.Entries.{first_where, gives, hits, lookup, offers, standing_at};
 
-use record::Record;
+use record::{Postings, Record};
 
 /// How many slots of a book are booked at most.
 pub const MOST_SLOTS: usize = 4096;
@@ -91,8 +91,9 @@ fn place_giving<R: Record>(slots: &[Slot<R>], member: u8, cents: i64) -> Option<
 fn gives<R: Record>(item: &R, member: u8, cents: i64) -> bool
     ensures { result ≡ gives member cents (R.posted item.now) }
 {
-    item.postings()
-        .as_slice()
+    let mut list = Postings::new();
+    item.fill(&mut list);
+    list.as_slice()
         .iter()
         .any(|p| p.member == member && cents <= p.cents)
 }

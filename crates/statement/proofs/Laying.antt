@@ -1,11 +1,8 @@
 -- The fields of a statement, written one after another.
-use Rattle.std.proofs.Common.{◌≡◌, ℕ, ◌+◌, ◌*◌, ◌<◌, List, [], ◌∷◌, ◌++◌, length, get_or, set, map, ℤ, pos, of_z, rules, sym, refl, ap, ◌∙◌, arith, length-append, w64}
+use Rattle.std.proofs.Common.{◌≡◌, ℕ, ◌+◌, ◌*◌, ◌<◌, ◌≤◌, List, [], ◌∷◌, ◌++◌, length, get_or, take, set, ℤ, sym, refl, ap, ◌∙◌, arith, length-append, w64}
 use borrow.Rule.Slice.PartMut.{put_mid}
-use Rattle.std.specs.Int.{to_be_bytes}
-use Rattle.std.specs.List.{flat_map}
-use Rattle.std.proofs.lemmas.List.{append-nil, drop_all, get_or-map, length-map, same_lists, set_split}
-use Rattle.std.proofs.lemmas.List.Folds.{flat_map-map}
-use Rattle.wire.specs.Bytes.{bytes, signed_bytes}
+use Rattle.std.proofs.lemmas.List.{append-nil, drop_all, flat_map_more, length-take-le, set_split, take_more}
+use Rattle.wire.specs.Bytes.{bytes, placed, signed_bytes}
 use Rattle.wire.proofs.Placing.{placed_more}
 use Rattle.statement.specs.declared.Statement.{Statement}
 use Rattle.statement.specs.Page.{amounts, bytes_of}
@@ -14,18 +11,15 @@ pub length_amounts : (zs : List ℤ) → length (amounts zs) ≡ 8 * length zs
 length_amounts [] = refl
 length_amounts (z ∷ zs) = let h = length_amounts zs in simp length-append (omega arith)
 
-to_be : (n : ℕ) → to_be_bytes w64 n ≡ bytes 8 n
-to_be n = search rules
-
--- amounts in their bytes, one by one
-pub amounts_are : (zs : List ℤ) (ys : List (List ℕ)) → length ys ≡ length zs
-    → ((k : ℕ) (d : List ℕ) → k < length zs → get_or ys k d ≡ to_be_bytes w64 (of_z w64 (get_or zs k (pos 0))))
-    → flat_map (λ y. y) ys ≡ amounts zs
-amounts_are zs ys long at =
-    let each = signed_bytes w64 8 in
-    let piece : (k : ℕ) (d : List ℕ) → k < length ys → get_or ys k d ≡ get_or (map each zs) k d =
-    λ k d l. at k d (omega arith) ∙ to_be (of_z w64 (get_or zs k (pos 0))) ∙ sym (get_or-map each zs k (pos 0) d (omega arith)) in
-    ap (flat_map (λ y. y)) (same_lists ys (map each zs) (long ∙ sym (length-map zs each)) piece) ∙ flat_map-map (λ y. y) each zs
+-- one amount more
+pub amounts_more : (i k : ℕ) (xs page : List ℕ) (zs : List ℤ) (d : ℤ)
+    → page ≡ placed 0 (amounts (take i zs)) xs → i < length zs → 8 * length zs ≤ length xs → k ≡ 8
+    → put_mid (8 * i) k page (signed_bytes w64 8 (get_or zs i d)) ≡ placed 0 (amounts (take (i + 1) zs)) xs
+amounts_more i k xs page zs d e h room k8 =
+    let long : length (amounts (take i zs)) ≡ 8 * i = length_amounts (take i zs) ∙ ap (λ n. 8 * n) (length-take-le i zs (omega arith)) in
+    ap (λ p. put_mid (8 * i) k p (signed_bytes w64 8 (get_or zs i d))) e
+    ∙ placed_more 0 (8 * i) k xs (amounts (take i zs)) (signed_bytes w64 8 (get_or zs i d)) (omega arith) k8 (omega arith)
+    ∙ ap (λ bs. placed 0 bs xs) (flat_map_more (signed_bytes w64 8) [] (take i zs) (get_or zs i d) ∙ ap amounts (sym (take_more zs i d h)))
 
 -- all fields of a statement, laid over a part of 263 bytes
 pub laid : (s : Statement) (xs a b d : List ℕ) → length xs ≡ 263 → length s.charges ≡ 32 → a ≡ bytes 4 s.number → b ≡ bytes 2 s.edition → d ≡ amounts s.charges

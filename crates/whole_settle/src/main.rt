@@ -144,7 +144,7 @@ fn keep_unspent(held: &mut Option<Permit>, answer: Result<(), Unspent>) -> Resul
 #[cfg(test)]
 mod tests {
     use super::AllCommands;
-    use desk::{INPUT, PAGE, read_file, settle};
+    use desk::{INPUT, PAGE, read_up_to, settle};
     use report::Report;
     use std::alloc::{AllocError, Global};
     use std::io::Cursor;
@@ -328,11 +328,11 @@ mod tests {
 
     #[test]
     fn longer_inputs_are_refused_unread(rt: HostRuntime) -> Result<(), Fail> {
-        let mut file = read_file(&mut Cursor::new(&[1; 40000]), rt.alloc())?;
-        assert!(rt; file.len() == INPUT);
-        reports(&rt, &file, b"R 0 file 1\n")?;
-        file.truncate(INPUT - 1);
-        reports(&rt, &file, b"R 5 file 3\n")
+        let mut input = [0; INPUT];
+        let n = read_up_to(&mut Cursor::new(&[1; 40000]), &mut input)?;
+        assert!(rt; n == INPUT);
+        reports(&rt, &input[0..n], b"R 0 file 1\n")?;
+        reports(&rt, &input[0..n - 1], b"R 5 file 3\n")
     }
 
     #[test]

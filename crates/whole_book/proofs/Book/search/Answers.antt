@@ -1,4 +1,4 @@
-use Rattle.std.proofs.Common.{◌≡◌, sym, w64}
+use Rattle.std.proofs.Common.{◌≡◌, sym, w64, rules}
 use Rattle.std.proofs.lemmas.Int.{to_z-of_z}
 use Rattle.slots.specs.Entries.{first_where, offers}
 use Rattle.whole_book.specs.Steps.{entries}
@@ -11,5 +11,5 @@ returns g c =
     let exact = to_z-of_z w64 c.args.cents c.ranges.cents in
     let booked = c.entries.ensures in
     let found = c.number_giving.ensures in
-    let first : c.number_giving.result ≡ first_where (offers g.R.Record.posted c.args.member c.args.cents) es = cc in
+    let first : c.number_giving.result ≡ first_where (offers g.R.Record.posted c.args.member c.args.cents) es = search rules in
     finds g.R.Record.posted c.args.member c.args.cents es _ (sym c.if-not-is_member.ensures) first
