@@ -3,6 +3,7 @@ use Rattle.std.proofs.Common.{◌≡◌, ℕ, ◌+◌, ◌<◌, Bool, true, fals
 use Rattle.std.specs.Prelude.{Ok, Err, Result, is_ok, nat_le}
 use Rattle.std.specs.Borrow.{MutBor}
 use Rattle.std.specs.Io.KnownBytes.{Appends}
+use Rattle.std.proofs.KnownBytes.{Appends-trans}
 use Rattle.std.proofs.lemmas.Bool.{and_right, cases_lt, cond-false, lt-leb}
 use Rattle.std.proofs.lemmas.List.{length-take-le, take_all}
 use Rattle.std.proofs.Math.Seq.{take-append_seam}
@@ -37,6 +38,10 @@ only_line line before after start end none came =
     let ends : end ≡ length line = omega arith in
     let page = sym (ap (λ s. s.0) fit) in
     ap (λ n. take n after) ends ∙ ap (take (length line)) page ∙ take-append_seam line (drop (0 + length line) before)
+
+-- what is written after nothing
+pub after_nothing : (a b c : Option (List ℕ)) (bs : List ℕ) → Appends a b [] → Appends b c bs → Appends a c bs
+after_nothing a b c bs none wrote = Appends-trans a b c [] bs none wrote
 
 -- a buffer that was written over whole
 pub written_over : (n : ℕ) (new old : List ℕ) → length new ≡ n → take n (new ++ drop (length new) old) ≡ new
