@@ -1,5 +1,5 @@
 -- What is written for a file that is refused as a whole.
-use Rattle.std.proofs.Common.{◌≡◌, ℕ, ◌+◌, ◌<◌, Bool, true, false, cond, ◌&&◌, List, [], ◌∷◌, ◌++◌, length, take, drop, Some, None, Option, option_map, IfSome, sym, refl, ap, ◌∙◌, subst, ⊎_elim, arith}
+use Rattle.std.proofs.Common.{◌≡◌, ℕ, ◌+◌, ◌<◌, Bool, true, false, cond, ◌&&◌, List, [], ◌∷◌, length, take, drop, Some, None, Option, option_map, IfSome, sym, refl, ap, ◌∙◌, subst, ⊎_elim, arith}
 use Rattle.std.specs.Prelude.{Ok, Err, Result, is_ok, nat_le}
 use Rattle.std.specs.Borrow.{MutBor}
 use Rattle.std.specs.Io.KnownBytes.{Appends}
@@ -39,13 +39,9 @@ only_line line before after start end none came =
     let page = sym (ap (λ s. s.0) fit) in
     ap (λ n. take n after) ends ∙ ap (take (length line)) page ∙ take-append_seam line (drop (0 + length line) before)
 
--- what is written after nothing
+-- what is written after nothing: so that the proof of `run` holds of what is written, and not of one call of `write_all`
 pub after_nothing : (a b c : Option (List ℕ)) (bs : List ℕ) → Appends a b [] → Appends b c bs → Appends a c bs
 after_nothing a b c bs none wrote = Appends-trans a b c [] bs none wrote
-
--- a buffer that was written over whole
-pub written_over : (n : ℕ) (new old : List ℕ) → length new ≡ n → take n (new ++ drop (length new) old) ≡ new
-written_over n new old h = ap (λ m. take m (new ++ drop (length new) old)) (sym h) ∙ take-append_seam new (drop (length new) old)
 
 long : (file : List ℕ) → 32768 < length file → header_of file ≡ Err Length
 long file h = cond-false (nat_le 5 (length file) && nat_le (length file) 32768) _ _ (and_right _ _ (lt-leb (length file) 32768 h))

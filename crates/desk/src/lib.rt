@@ -3,7 +3,7 @@
 #![tactic(auto)]
 
 ghost use Rattle.std.specs.Prelude.{◌≡◌, ◌≤◌, ℕ, List, [], ◌∷◌, length, take, IfOk, IfSome, OnOk};
-ghost use Rattle.std.specs.Io.KnownBytes.{Appends};
+ghost use Rattle.std.specs.Io.KnownBytes.{Appends, Consumes};
 ghost use Rattle.report.specs.Lines.{Added};
 ghost use Rattle.desk.specs.Refused.{whole_refused};
 
@@ -59,11 +59,12 @@ pub fn run<D: Desk, I: Read, O: Write>(
 }
 
 /// Reads until the buffer is full or the input ends; answers how many bytes came.
-// Each read asks for all the room that is left. `read_to_end` begins with less, and a socket of packets drops what a read
-// leaves of one; it also reads again after a signal, where this one answers the error.
+// Each read asks for all the room that is left. `read_to_end` would begin with less, where a socket of packets drops the rest
+// of one, and would read again after a signal, where this answers the error.
 pub fn read_up_to<I: Read>(input: &mut I, buf: &mut [u8]) -> io::Result<usize>
     ensures within { IfOk result (λ n. n ≤ length buf.old) }
     ensures bytes { IfOk result (λ n. IfSome (I.remaining input.old) (λ bytes. take n buf.new ≡ take (length buf.old) bytes)) }
+    ensures taken { IfOk result (λ n. Consumes (I.remaining input.old) (I.remaining input.new) (take n buf.new)) }
 {
     let mut n = 0;
     while n < buf.len() {

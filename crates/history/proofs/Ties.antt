@@ -1,7 +1,7 @@
 -- A book and its plain book go together, call by call.
-use Rattle.std.proofs.Common.{◌≡◌, ℕ, ◌+◌, ◌-◌, ◌<◌, ◌≤◌, min, Bool, true, false, cond, List, [], ◌∷◌, ◌++◌, map, length, take, set, replicate, ℤ, pos, Some, None, Ok, Err, fold, Option, Result, sym, refl, ap, ◌∙◌, subst, ap₂, arith, length-append, length-set}
+use Rattle.std.proofs.Common.{◌≡◌, ℕ, ◌+◌, ◌-◌, ◌<◌, ◌≤◌, min, Bool, true, false, cond, List, [], ◌∷◌, ◌++◌, map, length, take, set, replicate, ℤ, pos, Some, None, Ok, Err, fold, Option, Result, sym, refl, ap, ◌∙◌, subst, ap₂, arith, length-set}
 use lib.Seq.{take-set-lt}
-use Rattle.std.proofs.lemmas.List.{append-nil, length-map, length-take-le, map_push, take_more_set}
+use Rattle.std.proofs.lemmas.List.{append-nil, length-take-le, map_push, take_more_set}
 use Rattle.std.proofs.lemmas.List.Sums.{fold_push}
 use Rattle.std.proofs.lemmas.Bool.{ltb-true}
 use Rattle.std.specs.List.{AllByRecursion}
@@ -20,6 +20,7 @@ use Rattle.whole_book.specs.Rules.{told_of}
 use Rattle.slots.specs.Calls as calls
 use Rattle.whole_book.specs.Steps as steps
 use Rattle.slots.specs.Calls.{capacity}
+use Rattle.slots.proofs.Numbers.{number_within}
 use Rattle.whole_book.specs.Steps.{alone, changed_to, entries, in_state, issuing, new_register, unless_refused, unspent, without}
 use Rattle.history.proofs.Accepted.{corrected_stands, withdrawn_stands}
 use Rattle.history.specs.Plain as plain
@@ -106,9 +107,9 @@ module _ {R : Type 0} (keyed : R → ℕ) (posted : R → List Posting) (nought 
       -- the slot of a standing record is written
       rewritten : (s : Slot R) (f : Entry R → Entry R) → f (standing old) ≡ entry_of s → map entry_of (take b.used (set ss (n - 1) s)) ≡ with_number n f (map entry_of (entries ss b))
       rewritten s f same =
-          let size = ap length there.is in
+          let within = number_within (entries ss b) n old stands in
           let long = length-take-le b.used ss (omega arith) in
-          ap (map entry_of) (take-set-lt b.used ss (n - 1) s (omega (arith, there.at, size, length-map (entries ss b) entry_of, length-append there.front (standing old ∷ there.back)))) ∙ written n old (entries ss b) s f there same
+          ap (map entry_of) (take-set-lt b.used ss (n - 1) s (omega arith)) ∙ written n old (entries ss b) s f there same
 
       corrects : (x : R) → refuses (Corrects n x) ≡ None → N (Corrects n x) Done (set ss (n - 1) (calls.standing x)) (changed_to b b.used (all_posted (without b.ledger (posted old)) (posted x)))
       corrects x h =
